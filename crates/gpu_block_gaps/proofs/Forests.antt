@@ -1,5 +1,5 @@
 -- Trees of several classes in one row of slots.
-use Rattle.std.proofs.Common.{◌≡◌, ◌≢◌, ℕ, ◌+◌, ◌<◌, ◌≤◌, List, length, set, Option, Some, None, is_some, true, false, All, ◌⊎◌, inl, inr, refl, sym, ap, subst, ◌∙◌, arith}
+use Rattle.std.proofs.Common.{◌≡◌, ◌≢◌, ℕ, ◌+◌, ◌^◌, ◌<◌, ◌≤◌, List, length, set, Option, Some, None, is_some, true, false, All, ◌⊎◌, inl, inr, refl, sym, ap, subst, ◌∙◌, arith}
 use Rattle.std.specs.List.{slice_get, AllPairs}
 use Rattle.std.proofs.lemmas.List.Sums.{sum_by-set}
 use Rattle.std.proofs.lemmas.List.Elements.{All-weaker}
@@ -136,6 +136,7 @@ replanted key scale forks forks' spare spare' room roots classes classes' trees 
   told = λ d. told_at d (cases_eq d c);
   counted = (let a = are.counted in let b = new.counted in let e = new.long in let s = sum_by-set used trees c o None inside in omega arith);
   fits = subst (λ n. n ≤ room) (sym new.long) are.fits;
+  short = subst (λ n. n ≤ 2 ^ 31) (sym new.long) are.short;
   distinct = new.distinct;
   vacant = All-weaker (IsOutside forks trees c o) (IsVacant forks' (set trees c o)) (λ k is. (subst (λ n. k < n) (sym new.long) is.0, λ d t there has. vacant_at k d t there has is.1 is.2 (cases_eq d c))) spare' new.vacant;
 }

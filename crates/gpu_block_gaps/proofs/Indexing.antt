@@ -1,5 +1,5 @@
 -- Gaps in order, in a thread and in trees.
-use Rattle.std.proofs.Common.{◌≡◌, ◌≢◌, ℕ, suc, ◌+◌, ◌*◌, ◌/◌, ◌^◌, ◌<◌, ◌≤◌, List, [], ◌∷◌, ◌++◌, length, get_or, set, map, take, drop, Option, Some, None, ◌⊎◌, inl, inr, refl, sym, ap, subst, ◌∙◌, arith, vec_capacity}
+use Rattle.std.proofs.Common.{◌≡◌, ◌≢◌, ℕ, suc, ◌+◌, ◌*◌, ◌/◌, ◌^◌, ◌<◌, List, [], ◌∷◌, ◌++◌, length, get_or, set, map, take, drop, Option, Some, None, ◌⊎◌, inl, inr, refl, sym, ap, subst, ◌∙◌, arith, vec_capacity}
 use Rattle.std.specs.List.{insert, remove}
 use Rattle.std.proofs.lemmas.Option.{same_Some}
 use Rattle.std.proofs.lemmas.List.{map-append, take-map, drop-map, length-map, length-set, get_or-map, get_or-set_same, get_or-set_other}
@@ -13,7 +13,7 @@ use Rattle.std.proofs.Math.Nat.{min-le_right}
 use Rattle.gpu_block_gaps.proofs.Shapes.{near_has}
 use Rattle.gpu_block_gaps.proofs.Pruning.{near_finds}
 use Rattle.gpu_block_gaps.proofs.Positions.{in_insert_cases, in_removed, first_up_at, none_up_at, last_down_at}
-use Rattle.gpu_block_gaps.proofs.Finding.{up_here, down_here, same_here, up_later, none_later, length_fits}
+use Rattle.gpu_block_gaps.proofs.Finding.{up_here, down_here, same_here, up_later, none_later}
 use Rattle.gpu_block_gaps.proofs.Ordered.{trees_rekeyed, class_kept, tree_sorted, spare_slot, order_gains, order_loses}
 use Rattle.gpu_block_gaps.specs.declared.index.Gap.{Gap}
 use Rattle.gpu_block_gaps.specs.declared.order.Nearby.{Nearby}

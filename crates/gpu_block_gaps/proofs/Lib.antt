@@ -1,6 +1,7 @@
 pub mod Bits
 pub mod Classes
 pub mod Words
+pub mod Packing
 pub mod Trees
 pub mod Shapes
 pub mod Growing

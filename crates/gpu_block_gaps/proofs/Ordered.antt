@@ -47,6 +47,7 @@ trees_rekeyed key key' scale forks spare room roots classes trees same are = rec
   told = are.told;
   counted = are.counted;
   fits = are.fits;
+  short = are.short;
   distinct = are.distinct;
   vacant = are.vacant;
 }

@@ -53,6 +53,7 @@ module _ (t : Threaded) (f : Forest) (trees : List (Option Tree)) (are : AreInde
     told = are.forest.told;
     counted = are.forest.counted;
     fits = are.forest.fits;
+    short = are.forest.short;
     distinct = are.forest.distinct;
     vacant = are.forest.vacant;
   }

@@ -1,5 +1,5 @@
 -- More room for the trees of the classes.
-use Rattle.std.proofs.Common.{◌≡◌, ◌≢◌, ℕ, ◌+◌, ◌*◌, ◌<◌, ◌≤◌, List, [], ◌∷◌, ◌++◌, length, get_or, replicate, Option, Some, None, is_some, refl, sym, ap, subst, ◌∙◌, arith, inl, inr, ◌⊎◌}
+use Rattle.std.proofs.Common.{◌≡◌, ◌≢◌, ℕ, ◌+◌, ◌*◌, ◌^◌, ◌<◌, ◌≤◌, List, [], ◌∷◌, ◌++◌, length, get_or, replicate, Option, Some, None, is_some, refl, sym, ap, subst, ◌∙◌, arith, inl, inr, ◌⊎◌}
 use Rattle.std.specs.List.{slice_get, sum_by}
 use Rattle.std.proofs.lemmas.Bool.{cases_lt}
 use Rattle.std.proofs.lemmas.Option.{same_Some, slice_get-get_or}
@@ -23,8 +23,8 @@ kept_slot forks f k within =
     ∙ ap (λ (x : Fork). Some x) (get_or_append_left forks (f ∷ []) f k within) ∙ sym (slice_get-get_or forks k f within)
 
 pub fork_added : (key : ℕ → ℕ) (scale : Scale) (forks : List Fork) (spare : List ℕ) (room : ℕ) (roots : List (Option Node)) (classes : List ℕ) (trees : List (Option Tree)) (f : Fork)
-    → AreTrees key scale forks spare room roots classes trees → length forks < room → AreTrees key scale (forks ++ f ∷ []) (spare ++ length forks ∷ []) room roots classes trees
-fork_added key scale forks spare room roots classes trees f are fits = record {
+    → AreTrees key scale forks spare room roots classes trees → length forks < room → length forks < 2 ^ 31 → AreTrees key scale (forks ++ f ∷ []) (spare ++ length forks ∷ []) room roots classes trees
+fork_added key scale forks spare room roots classes trees f are fits few = record {
   few = are.few;
   wide = are.wide;
   rooted = are.rooted;
@@ -33,6 +33,7 @@ fork_added key scale forks spare room roots classes trees f are fits = record {
   told = are.told;
   counted = (let a = length-append forks (f ∷ []) in let b = length-append spare (length forks ∷ []) in let e = are.counted in omega arith);
   fits = (let a = length-append forks (f ∷ []) in omega arith);
+  short = (let a = length-append forks (f ∷ []) in omega arith);
   distinct = all_pairs_push (λ a b. a ≢ b) spare (length forks) are.distinct
       (λ i d within same. let old = (All-get_or (IsVacant forks trees) spare i d within are.vacant).0 in omega arith);
   vacant = All-push (IsVacant (forks ++ f ∷ []) trees) spare (length forks)
@@ -56,6 +57,7 @@ room_more key scale forks spare room room' roots classes trees are more = record
   told = are.told;
   counted = are.counted;
   fits = (let a = are.fits in omega arith);
+  short = are.short;
   distinct = are.distinct;
   vacant = are.vacant;
 }
@@ -87,6 +89,7 @@ widened key scale forks spare room roots classes trees classes' n are empty coun
     told = λ c. none c (omega arith) ∙ sym (ap (λ (r : Option Node). is_some r) (none_at n c));
     counted = (let a = are.counted in let b = sum_by-replicate used n None in let e = ap (sum_by used) gone in omega arith);
     fits = are.fits;
+    short = are.short;
     distinct = are.distinct;
     vacant = All-weaker (IsVacant forks trees) (IsVacant forks (replicate n None)) (λ k old. (old.0, λ c t is has. absurd (let no = none_at {A = Tree} n c in cc))) spare are.vacant;
   },

@@ -162,7 +162,7 @@ past_gap rs k = at (rs ++ blank_record ∷ []) ∙ ap gap_of (past_blank rs k) �
         by_order (inl lt) = get_or-map gap_of xs k blank_record blank lt
         by_order (inr past) = get_or_past (map gap_of xs) k blank (let a = length-map xs gap_of in omega arith) ∙ sym (ap gap_of (get_or_past xs k blank_record past))
 
-module _ (rs : List Record) (spare : List ℕ) (room : ℕ) (order : List ℕ) (are : AreThreaded rs spare room order) (few : length rs + 1 < 2 ^ 32) (fits : length rs < room) where
+module _ (rs : List Record) (spare : List ℕ) (room : ℕ) (order : List ℕ) (are : AreThreaded rs spare room order) (few : length rs + 1 < 2 ^ 31) (fits : length rs < room) where
   long : length (rs ++ blank_record ∷ []) ≡ length rs + 1
   long = length-append rs (blank_record ∷ [])
 

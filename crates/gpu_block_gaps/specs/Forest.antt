@@ -55,6 +55,7 @@ pub record AreTrees (key : ℕ → ℕ) (scale : Scale) (forks : List Fork) (spa
   pub told : (c : ℕ) → is_in classes c ≡ is_some (root_at roots c)
   pub counted : length spare + sum_by used trees ≡ length forks
   pub fits : length forks ≤ room
+  pub short : length forks ≤ 2 ^ 31
   pub distinct : AllPairs (λ a b. a ≢ b) spare
   pub vacant : All (IsVacant forks trees) spare
 

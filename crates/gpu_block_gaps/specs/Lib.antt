@@ -2,7 +2,7 @@ pub mod Key
 pub mod Class
 pub mod ClassSet
 pub mod Tree
-pub mod Root
+pub mod Packed
 pub mod Forest
 pub mod Order
 pub mod Index

@@ -3,12 +3,14 @@
 ghost use Rattle.std.specs.Prelude.{◌≡◌, ℕ, ◌+◌, ◌^◌, ◌<◌, ◌≤◌, ◌⊎◌, List, [], Option, Some, None, MatchOption, IfSome, OnOk, vec_len, vec_capacity, slice_set};
 ghost use Rattle.gpu_block_gaps.specs.Key.{code_of};
 ghost use Rattle.gpu_block_gaps.specs.Class.{IsFew};
+ghost use Rattle.gpu_block_gaps.specs.Packed.{IsSmall};
 ghost use Rattle.gpu_block_gaps.specs.Tree.{Tree, tip, near, leaves_of, IsSplit, IsPlace};
 ghost use Rattle.gpu_block_gaps.specs.Forest.{IsForest, HasTree, AddsLeaf, LosesLeaf, IsFirstLater, IsWide, KeepsTrees, KeepsRoom, class_in, tree_at, root_at};
 
 use crate::class::Scale;
 use crate::class_set::ClassSet;
 use crate::key::Key;
+use crate::packed::Packed;
 use crate::root::Root;
 use crate::tree::{Fork, Node, Place, first, insert, nearest, place_of, remove};
 use std::alloc::{AllocError, Global};
@@ -64,7 +66,7 @@ impl Forest {
 
     /// Adds a slot for a fork. There is room for it.
     fn add_slot(&mut self)
-        requires few { vec_len self.old.forks < 2 ^ 32 }
+        requires few { vec_len self.old.forks < 2 ^ 31 }
         requires forks { vec_len self.old.forks < vec_capacity self.old.forks }
         requires spare { vec_len self.old.spare < vec_capacity self.old.spare }
         ensures trees { (at : ℕ → ℕ) (trees : List (Option Tree))
@@ -78,8 +80,8 @@ impl Forest {
     {
         self.spare.push_reserved(self.forks.len() as u32);
         self.forks.push_reserved(Fork {
-            zero: Node::Leaf(0),
-            one: Node::Leaf(0),
+            zero: Packed::new(Node::Branch(0)),
+            one: Packed::new(Node::Branch(0)),
             bit: 0,
         });
     }
@@ -87,7 +89,7 @@ impl Forest {
     /// Makes room for that many leaves in all. No tree changes.
     pub fn reserve_to(&mut self, count: usize) -> Result<(), AllocError>
         requires forest { (at : ℕ → ℕ) × (trees : List (Option Tree)) × IsForest at self.old trees }
-        requires few { count < 2 ^ 32 }
+        requires few { count < 2 ^ 31 }
         ensures trees { (at : ℕ → ℕ) (trees : List (Option Tree)) → IsForest at self.old trees
             → (same : List (Option Tree)) × IsForest at self.new same × KeepsTrees trees same }
         ensures room { OnOk result (IsWide self.new × (count ≤ vec_len self.new.forks)) }
@@ -115,7 +117,8 @@ impl Forest {
     }
 
     fn root(&self, class: usize) -> Option<Node>
-        ensures { result ≡ root_at self.now.roots.items class }
+        ensures is { result ≡ root_at self.now.roots.items class }
+        ensures small { IfSome result IsSmall }
     {
         match self.roots.get(class) {
             Some(root) => root.node(),
@@ -187,6 +190,7 @@ impl Forest {
     pub fn insert_first(&mut self, key: Key, leaf: u32)
         requires forest { (at : ℕ → ℕ) × (trees : List (Option Tree)) × IsForest at self.old trees }
         requires wide { IsWide self.old }
+        requires leaf { leaf + 1 < 2 ^ 31 }
         ensures trees { (at : ℕ → ℕ) (trees : List (Option Tree)) → IsForest at self.old trees
             → at leaf ≡ code_of key → let class = class_in self.old.scale (code_of key)
             in tree_at trees class ≡ None
@@ -204,6 +208,7 @@ impl Forest {
         requires there { HasTree self.old (code_of key) }
         requires bit { bit < 128 }
         requires spare { 0 < vec_len self.old.spare }
+        requires leaf { leaf + 1 < 2 ^ 31 }
         ensures trees { (at : ℕ → ℕ) (trees : List (Option Tree)) (t : Tree)
             → IsForest at self.old trees → at leaf ≡ code_of key
             → let class = class_in self.old.scale (code_of key) in tree_at trees class ≡ Some t

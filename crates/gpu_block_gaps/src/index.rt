@@ -19,15 +19,17 @@ use std::marker::Model;
 /// How many binary digits of a length its class tells, behind the first, where there is room for few gaps.
 const FEW_DIGITS: u32 = 4;
 
+/// For how many gaps there is room at most: a slot has a number of 31 bits, and slot 0 has no gap.
+const MOST_GAPS: usize = (1 << 31) - 2;
+
 /// For how many gaps more there is room at least, once it grows.
 const LEAST_GROWTH: usize = 4;
 
 /// For how many gaps there is room after it grew. Records are long, so that it grows by a quarter, and not to the double.
 fn grown(room: usize) -> usize
-    ensures { result + 1 < 2 ^ 32 }
+    ensures { result + 1 < 2 ^ 31 }
 {
-    let most = u32::MAX as usize - 1;
-    most.min(room.saturating_add(LEAST_GROWTH.max(room / 4)))
+    MOST_GAPS.min(room.saturating_add(LEAST_GROWTH.max(room / 4)))
 }
 
 /// How many digits serve that many gaps. Each digit more halves the gaps of a class, and doubles the table of the classes.
@@ -156,8 +158,7 @@ impl GapIndex {
         if count <= self.thread.room() {
             return Ok(());
         }
-        // Slots are numbered with 32 bits.
-        if count >= u32::MAX as usize {
+        if count > MOST_GAPS {
             return Err(AllocError);
         }
         let wanted = count.max(grown(self.thread.room()));
@@ -170,7 +171,7 @@ impl GapIndex {
 
     /// Makes room for that many gaps in all, with the same classes. A refusal changes nothing.
     fn widen(&mut self, count: usize) -> Result<(), AllocError>
-        requires few { count + 1 < 2 ^ 32 }
+        requires few { count + 1 < 2 ^ 31 }
         ensures same { self.new.gaps ≡ self.old.gaps }
         ensures room { OnOk result (count ≤ self.new.room) }
         ensures kept { self.old.room ≤ self.new.room }
@@ -183,7 +184,7 @@ impl GapIndex {
 
     /// The same gaps, with classes for that many, and with room for them.
     fn made_anew(&self, count: usize) -> Result<GapIndex, AllocError>
-        requires few { count + 1 < 2 ^ 32 }
+        requires few { count + 1 < 2 ^ 31 }
         requires enough { self.now.room ≤ count }
         ensures same { IfOk result (λ i. i.gaps ≡ self.now.gaps) }
         ensures room { IfOk result (λ i. count ≤ i.room) }

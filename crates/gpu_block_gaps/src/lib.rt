@@ -7,6 +7,7 @@ mod forest;
 mod index;
 mod key;
 mod order;
+mod packed;
 mod root;
 mod scan;
 mod thread;

@@ -76,6 +76,7 @@ fn plant(forest: &mut Forest, key: Key, nearby: Nearby, slot: u32)
     requires new { (other : ℕ) → nearby ≢ Nearby.Same other }
     requires wide { IsWide forest.old }
     requires spare { 0 < vec_len forest.old.spare }
+    requires slot { slot + 1 < 2 ^ 31 }
     ensures trees { (at : ℕ → ℕ) (trees : List (Option Tree)) → IsForest at forest.old trees
         → at slot ≡ code_of key → IsNearby at forest.old.scale trees (code_of key) nearby
         → let class = class_in forest.old.scale (code_of key)

@@ -1,37 +1,35 @@
-//! The roots of the classes, in 8 bytes each.
+//! The roots of the classes, in 4 bytes each.
 
-ghost use Rattle.std.specs.Prelude.{◌≡◌, Some, None};
+ghost use Rattle.std.specs.Prelude.{◌≡◌, Some, None, IfSome};
+ghost use Rattle.gpu_block_gaps.specs.Packed.{IsSmall};
 
+use crate::packed::Packed;
 use crate::tree::Node;
 use std::marker::Model;
 
-/// The cases of an `Option<Node>`, in one enum: that takes 8 bytes, and an option of an enum 12.
-#[derive(Clone, Copy)]
-enum Case {
-    Empty,
-    Leaf(u32),
-    Branch(u32),
-}
+/// The number that is no node.
+const EMPTY: u32 = u32::MAX;
 
-/// The root of a class's tree, if it has one.
+/// The root of a class's tree, if it has one: a node as one number, or the number of none.
 #[derive(Clone, Copy)]
 pub struct Root {
-    case: Case,
+    bits: u32,
 }
 
 impl Model for Root {
-    ghost use Rattle.std.specs.Prelude.{Option};
+    ghost use Rattle.std.specs.Prelude.{Option, ◌<◌, ◌^◌};
     ghost use Rattle.gpu_block_gaps.specs.declared.tree.Node.{Node};
-    ghost use Rattle.gpu_block_gaps.specs.declared.root.Case.{Case};
-    ghost use Rattle.gpu_block_gaps.specs.Root.{node_of, case_of, case_again};
+    ghost use Rattle.gpu_block_gaps.specs.Packed.{node_if, number_if, number_if_again};
 
     ghost Value = { Option Node };
 
-    ghost view = { λ r. node_of r.case };
+    ghost view = { λ r. node_if r.bits };
 
-    ghost inverse = { λ o. record { case = case_of o } };
+    ghost invariant = { λ r. r.bits < 2 ^ 32 };
 
-    ghost inverse_ok = { λ r h i. record { case = case_again r.case i } };
+    ghost inverse = { λ o. record { bits = number_if o } };
+
+    ghost inverse_ok = { λ r h i. record { bits = number_if_again r.bits i } };
 }
 
 impl Root {
@@ -39,33 +37,29 @@ impl Root {
     pub fn empty() -> Root
         ensures { result ≡ None }
     {
-        Root { case: Case::Empty }
+        Root { bits: EMPTY }
     }
 
     /// The root that is a node.
     #[inline(always)]
     pub fn at(node: Node) -> Root
+        requires { IsSmall node }
         ensures { result ≡ Some node }
     {
-        match node {
-            Node::Leaf(leaf) => Root {
-                case: Case::Leaf(leaf),
-            },
-            Node::Branch(slot) => Root {
-                case: Case::Branch(slot),
-            },
+        Root {
+            bits: Packed::new(node).bits,
         }
     }
 
     /// The node, if there is one.
     #[inline(always)]
     pub fn node(self) -> Option<Node>
-        ensures { result ≡ self }
+        ensures is { result ≡ self }
+        ensures small { IfSome result IsSmall }
     {
-        match self.case {
-            Case::Empty => None,
-            Case::Leaf(leaf) => Some(Node::Leaf(leaf)),
-            Case::Branch(slot) => Some(Node::Branch(slot)),
+        if self.bits == EMPTY {
+            return None;
         }
+        Some(Packed { bits: self.bits }.node())
     }
 }

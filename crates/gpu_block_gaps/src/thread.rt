@@ -107,7 +107,7 @@ fn unlink(records: &mut [Record], slot: u32)
 /// Adds a slot. There is room for it.
 fn add_slot(records: &mut Vec<Record>, spare: &mut Vec<u32>)
     requires thread { IsThread records.old.items spare.old.items (vec_capacity spare.old) }
-    requires few { vec_len records.old + 1 < 2 ^ 32 }
+    requires few { vec_len records.old + 1 < 2 ^ 31 }
     requires records { vec_len records.old < vec_capacity records.old }
     requires spare { vec_len records.old < vec_capacity spare.old }
     ensures thread { IsThread records.new.items spare.new.items (vec_capacity spare.new) }
@@ -138,7 +138,7 @@ fn add_slot(records: &mut Vec<Record>, spare: &mut Vec<u32>)
 /// Adds slots up to that count. There is room for them.
 fn fill(records: &mut Vec<Record>, spare: &mut Vec<u32>, count: usize)
     requires thread { IsThread records.old.items spare.old.items (vec_capacity spare.old) }
-    requires few { count < 2 ^ 32 }
+    requires few { count < 2 ^ 31 }
     requires records { count ≤ vec_capacity records.old }
     requires spare { count ≤ vec_capacity spare.old }
     ensures thread { IsThread records.new.items spare.new.items (vec_capacity spare.new) }
@@ -167,7 +167,7 @@ impl Thread {
     pub fn sound(&self)
         ensures inside { (slot : ℕ) → IsIn slot self.now.order
             → (0 < slot) × (slot < length self.now.gaps) }
-        ensures few { (length self.now.gaps < 2 ^ 32)
+        ensures few { (length self.now.gaps < 2 ^ 31)
             × (length self.now.order ≤ length self.now.gaps - 1) }
         ensures distinct { AllPairs (λ a b. a ≢ b) self.now.order }
     {
@@ -213,7 +213,7 @@ impl Thread {
 
     /// Makes room for that many gaps in all. A refusal changes nothing.
     pub fn reserve_to(&mut self, count: usize) -> Result<(), AllocError>
-        requires { count + 1 < 2 ^ 32 }
+        requires { count + 1 < 2 ^ 31 }
         ensures order { self.new.order ≡ self.old.order }
         ensures gaps { (k : ℕ) → gap_in self.new.gaps k ≡ gap_in self.old.gaps k }
         ensures room { OnOk result (count < length self.new.gaps) }
@@ -240,6 +240,7 @@ impl Thread {
         ensures gaps { self.new.gaps ≡ slice_set self.old.gaps result gap }
         ensures slot { (0 < result) × (result < length self.old.gaps)
             × (IsIn result self.old.order → ⊥) }
+        ensures few { result + 1 < 2 ^ 31 }
     {
         let Some(slot) = self.spare.pop() else {
             unreachable!()

@@ -1,11 +1,13 @@
 //! A tree over the bits of keys, whose forks lie in slots.
 
-ghost use Rattle.std.specs.Prelude.{◌≡◌, ◌≢◌, ℕ, ◌<◌, length, Some, if◌then◌else◌};
+ghost use Rattle.std.specs.Prelude.{◌≡◌, ◌≢◌, ℕ, ◌<◌, ◌+◌, ◌^◌, length, Some, if◌then◌else◌};
 ghost use Rattle.std.specs.List.{slice_get};
 ghost use Rattle.gpu_block_gaps.specs.Key.{code_of, bit_of};
+ghost use Rattle.gpu_block_gaps.specs.Packed.{IsSmall};
 ghost use Rattle.gpu_block_gaps.specs.Tree.{Tree, Lays, Sorted, leaves_of, first_leaf, last_leaf, near, grown, CanGrow, HasGrown, HasPruned, IsSplit, IsPlace};
 
 use crate::key::Key;
+use crate::packed::Packed;
 
 /// Where a branch leads: to a leaf, which names a record, or to the fork in a slot.
 #[derive(Clone, Copy)]
@@ -17,8 +19,8 @@ pub enum Node {
 /// Keys without the bit are found along `zero`, those with it along `one`.
 #[derive(Clone, Copy)]
 pub struct Fork {
-    pub zero: Node,
-    pub one: Node,
+    pub zero: Packed,
+    pub one: Packed,
     pub bit: u32,
 }
 
@@ -46,36 +48,48 @@ pub struct Gone {
 
 impl Fork {
     /// The branch of the keys with the bit, or of those without it.
-    pub fn branch(self, set: bool) -> Node
-        ensures { result ≡ (if set then self.one else self.zero) }
+    pub fn branch(&self, set: bool) -> Node
+        ensures is { result ≡ (if set then self.now.one else self.now.zero) }
+        ensures small { IsSmall result }
     {
-        if set { self.one } else { self.zero }
+        if set {
+            self.one.node()
+        } else {
+            self.zero.node()
+        }
     }
 
     /// The fork with another branch of the keys with the bit, or of those without it.
-    fn with_branch(self, set: bool, branch: Node) -> Fork
-        ensures { result ≡ (if set then record self { one = branch }
-            else record self { zero = branch }) }
+    fn with_branch(&self, set: bool, branch: Node) -> Fork
+        requires { IsSmall branch }
+        ensures { result ≡ (if set then record self.now { one = branch }
+            else record self.now { zero = branch }) }
     {
+        let branch = Packed::new(branch);
         if set {
             Fork {
+                zero: self.zero,
                 one: branch,
-                ..self
+                bit: self.bit,
             }
         } else {
             Fork {
                 zero: branch,
-                ..self
+                one: self.one,
+                bit: self.bit,
             }
         }
     }
 
     /// A fork with a leaf beside a node, along the branch of the keys with the bit or of those without it.
     fn beside(bit: u32, set: bool, node: Node, leaf: u32) -> Fork
+        requires node { IsSmall node }
+        requires leaf { leaf + 1 < 2 ^ 31 }
         ensures { result ≡ (if set then record { zero = node; one = Node.Leaf leaf; bit = bit }
             else record { zero = Node.Leaf leaf; one = node; bit = bit }) }
     {
-        let leaf = Node::Leaf(leaf);
+        let node = Packed::new(node);
+        let leaf = Packed::new(Node::Leaf(leaf));
         if set {
             Fork {
                 zero: node,
@@ -116,7 +130,7 @@ pub fn first(forks: &[Fork], node: Node) -> u32
 {
     match node {
         Node::Leaf(leaf) => leaf,
-        Node::Branch(slot) => first(forks, fork_in(forks, slot).zero),
+        Node::Branch(slot) => first(forks, fork_in(forks, slot).zero.node()),
     }
 }
 
@@ -127,7 +141,7 @@ pub fn last(forks: &[Fork], node: Node) -> u32
 {
     match node {
         Node::Leaf(leaf) => leaf,
-        Node::Branch(slot) => last(forks, fork_in(forks, slot).one),
+        Node::Branch(slot) => last(forks, fork_in(forks, slot).one.node()),
     }
 }
 
@@ -149,7 +163,8 @@ pub fn nearest(forks: &[Fork], node: Node, key: Key) -> u32
 /// and in none above it.
 fn insert_below(forks: &mut [Fork], above: u32, key: Key, bit: u32, leaf: u32, slot: u32)
     requires laid { (t : Tree) × Lays (slice_get forks.old) 128 (Node.Branch above) t }
-    requires slot { slot < length forks.old }
+    requires slot { (slot < length forks.old) × (slot < 2 ^ 31) }
+    requires leaf { leaf + 1 < 2 ^ 31 }
     requires bit { bit < 128 }
     requires higher { (f : Fork) × (slice_get forks.old above ≡ Some f) × (bit < f.bit) }
     ensures { (at : ℕ → ℕ) (top : ℕ) (t : Tree)
@@ -177,9 +192,12 @@ fn insert_below(forks: &mut [Fork], above: u32, key: Key, bit: u32, leaf: u32, s
 /// Puts a leaf into a tree beside the part from which its key differs in that bit, and in none above it, by a fork in a slot.
 pub fn insert(forks: &mut [Fork], node: Node, key: Key, bit: u32, leaf: u32, slot: u32) -> Node
     requires laid { (t : Tree) × Lays (slice_get forks.old) 128 node t }
-    requires slot { slot < length forks.old }
+    requires node { IsSmall node }
+    requires slot { (slot < length forks.old) × (slot < 2 ^ 31) }
+    requires leaf { leaf + 1 < 2 ^ 31 }
     requires bit { bit < 128 }
-    ensures { (at : ℕ → ℕ) (top : ℕ) (t : Tree)
+    ensures small { IsSmall result }
+    ensures grown { (at : ℕ → ℕ) (top : ℕ) (t : Tree)
         → CanGrow at (slice_get forks.old) top node t (code_of key) bit slot
         → HasGrown (slice_get forks.old) (slice_get forks.new) top result t
         (grown (code_of key) bit leaf slot t) slot }
@@ -240,7 +258,9 @@ fn remove_below(forks: &mut [Fork], slot: u32, fork: Fork, set: bool, below: u32
 
 /// Takes the leaf to which the bits of a key lead out of the tree at a fork.
 pub fn remove(forks: &mut [Fork], slot: u32, key: Key) -> Cut
-    requires { (t : Tree) × Lays (slice_get forks.old) 128 (Node.Branch slot) t }
+    requires laid { (t : Tree) × Lays (slice_get forks.old) 128 (Node.Branch slot) t }
+    requires slot { slot < 2 ^ 31 }
+    ensures small { IsSmall result.node }
     ensures tree { (at : ℕ → ℕ) (top : ℕ) (t : Tree)
         → Lays (slice_get forks.old) top (Node.Branch slot) t → Sorted at t
         → HasPruned (slice_get forks.old) (slice_get forks.new) top result.node t (code_of key)

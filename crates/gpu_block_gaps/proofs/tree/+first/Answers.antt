@@ -1,7 +1,8 @@
-use Rattle.std.proofs.Common.{rules, arith, ◌<◌, sym, ap, ◌∙◌}
+use Rattle.std.proofs.Common.{rules, arith, ◌<◌, sym, ap, subst, ◌∙◌}
 use Rattle.std.specs.List.{slice_get}
 use Rattle.std.proofs.lemmas.Option.{slice_get_within}
-use Rattle.gpu_block_gaps.specs.Tree.{first_leaf}
+use Rattle.gpu_block_gaps.specs.declared.tree.Node.{Node}
+use Rattle.gpu_block_gaps.specs.Tree.{Lays, first_leaf}
 use Rattle.gpu_block_gaps.proofs.Trees.{fork_at, fork_read, tip_at, lays_under, rank, falls}
 use Rattle.gpu_block_gaps.proofs.tree.+first.Goals as goal
 
@@ -15,8 +16,9 @@ first-requires t c =
     let slots = slice_get c.args.forks.now in
     let f = c.fork_in.result in
     let there = fork_read slots 128 c.args.node c.requires.0 c.in-Branch.slot f c.requires.1 c.in-Branch.is c.fork_in.ensures in
-    let smaller : rank slots f.zero < rank slots c.args.node = falls slots c.in-Branch.slot c.args.node f f.zero there.x c.in-Branch.is c.fork_in.ensures there.left in
-    (search rules, (there.x, lays_under slots f.bit 128 f.zero there.x there.left (let below = there.below in omega arith)))
+    let laid = subst (λ (n : Node). Lays slots f.bit n there.x) (sym c.node.ensures.is) there.left in
+    let smaller : rank slots c.node.result < rank slots c.args.node = falls slots c.in-Branch.slot c.args.node f c.node.result there.x c.in-Branch.is c.fork_in.ensures laid in
+    (search rules, (there.x, lays_under slots f.bit 128 c.node.result there.x laid (let below = there.below in omega arith)))
 
 pub returns-in-Leaf : goal.returns-in-Leaf
 returns-in-Leaf t c = λ u laid. sym (ap first_leaf (tip_at _ 128 c.args.node u c.in-Leaf.leaf laid c.in-Leaf.is))
@@ -26,4 +28,5 @@ returns-in-Branch t c = λ u laid.
     let slots = slice_get c.args.forks.now in
     let f = c.fork_in.result in
     let there = fork_read slots 128 c.args.node u c.in-Branch.slot f laid c.in-Branch.is c.fork_in.ensures in
-    c.first.ensures there.x (lays_under slots f.bit 128 f.zero there.x there.left (let below = there.below in omega arith)) ∙ sym (ap first_leaf there.is)
+    let laid = subst (λ (n : Node). Lays slots f.bit n there.x) (sym c.node.ensures.is) there.left in
+    c.first.ensures there.x (lays_under slots f.bit 128 c.node.result there.x laid (let below = there.below in omega arith)) ∙ sym (ap first_leaf there.is)

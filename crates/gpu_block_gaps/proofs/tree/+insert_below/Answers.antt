@@ -24,7 +24,7 @@ fork_in-requires t c =
     let f = c.fork_in-fork.result in
     let there = fork_read slots 128 (Branch c.args.above) (c.requires.laid).0 c.args.above f (c.requires.laid).1 refl c.fork_in-fork.ensures in
     let b = bit_of (code_of c.args.key) f.bit in
-    let way : cond b f.one f.zero ≡ Branch c.in_Branch-branch.below = sym (c.branch-branch.ensures ∙ ap (λ set. cond set f.one f.zero) c.is_set-set.ensures) ∙ c.in_Branch-branch.is in
+    let way : cond b f.one f.zero ≡ Branch c.in_Branch-branch.below = sym (c.branch-branch.ensures.is ∙ ap (λ set. cond set f.one f.zero) c.is_set-set.ensures) ∙ c.in_Branch-branch.is in
     let laid : Lays slots f.bit (Branch c.in_Branch-branch.below) (cond b there.y there.x) =
     subst (λ (n : Node). Lays slots f.bit n (cond b there.y there.x)) way (lays_branch b slots f.bit f.zero f.one there.x there.y there.left there.right) in
     let next = fork_at slots f.bit (Branch c.in_Branch-branch.below) (cond b there.y there.x) c.in_Branch-branch.below laid refl in
@@ -36,11 +36,11 @@ insert_below-requires t c =
     let f = c.fork_in-fork.result in
     let there = fork_read slots 128 (Branch c.args.above) (c.requires.laid).0 c.args.above f (c.requires.laid).1 refl c.fork_in-fork.ensures in
     let b = bit_of (code_of c.args.key) f.bit in
-    let way : cond b f.one f.zero ≡ Branch c.in_Branch-branch.below = sym (c.branch-branch.ensures ∙ ap (λ set. cond set f.one f.zero) c.is_set-set.ensures) ∙ c.in_Branch-branch.is in
+    let way : cond b f.one f.zero ≡ Branch c.in_Branch-branch.below = sym (c.branch-branch.ensures.is ∙ ap (λ set. cond set f.one f.zero) c.is_set-set.ensures) ∙ c.in_Branch-branch.is in
     let laid : Lays slots f.bit (Branch c.in_Branch-branch.below) (cond b there.y there.x) =
     subst (λ (n : Node). Lays slots f.bit n (cond b there.y there.x)) way (lays_branch b slots f.bit f.zero f.one there.x there.y there.left there.right) in
     let smaller : rank slots (Branch c.in_Branch-branch.below) < rank slots (Branch c.args.above) = falls slots c.args.above (Branch c.args.above) f (Branch c.in_Branch-branch.below) _ refl c.fork_in-fork.ensures laid in
-    (search rules, ((cond b there.y there.x, lays_under slots f.bit 128 (Branch c.in_Branch-branch.below) _ laid (let below = there.below in omega arith)), (c.requires.slot, (c.requires.bit, (c.fork_in.result, c.fork_in.ensures, c.if-bit-fork_in.true)))))
+    (search rules, ((cond b there.y there.x, lays_under slots f.bit 128 (Branch c.in_Branch-branch.below) _ laid (let below = there.below in omega arith)), (c.requires.slot, (c.requires.leaf, (c.requires.bit, (c.fork_in.result, c.fork_in.ensures, c.if-bit-fork_in.true))))))
 
 pub returns-then-bit-fork_in : goal.returns-then-bit-fork_in
 returns-then-bit-fork_in t c = λ key top u can.
@@ -51,7 +51,7 @@ returns-then-bit-fork_in t c = λ key top u can.
     let bit = c.args.bit in
     let there = fork_read old top (Branch c.args.above) u c.args.above f can.laid refl c.fork_in-fork.ensures in
     let b = bit_of n f.bit in
-    let way : cond b f.one f.zero ≡ Branch c.in_Branch-branch.below = sym (c.branch-branch.ensures ∙ ap (λ set. cond set f.one f.zero) c.is_set-set.ensures) ∙ c.in_Branch-branch.is in
+    let way : cond b f.one f.zero ≡ Branch c.in_Branch-branch.below = sym (c.branch-branch.ensures.is ∙ ap (λ set. cond set f.one f.zero) c.is_set-set.ensures) ∙ c.in_Branch-branch.is in
     let lt : bit < f.bit = subst (λ (g : Fork). bit < g.bit) (same_Some _ _ (sym (c.requires.higher).1 ∙ c.fork_in-fork.ensures)) (c.requires.higher).2 in
     let can' : CanGrow key old top (Branch c.args.above) (fork c.args.above f.bit there.x there.y) n bit c.args.slot = subst (λ z. CanGrow key old top (Branch c.args.above) z n bit c.args.slot) there.is can in
     let below = can_branch key old top (Branch c.args.above) c.args.above f.bit f.zero f.one there.x there.y n bit c.args.slot can' there.left there.right lt in
@@ -119,7 +119,7 @@ returns t c = λ key top u can. whole key top u can
     whole key top u can =
         let there = fork_read old top (Branch c.args.above) u c.args.above f can.laid refl c.fork_in-fork.ensures in
         let b = bit_of n f.bit in
-        let way : c.branch-branch.result ≡ cond b f.one f.zero = c.branch-branch.ensures ∙ ap (λ set. cond set f.one f.zero) c.is_set-set.ensures in
+        let way : c.branch-branch.result ≡ cond b f.one f.zero = c.branch-branch.ensures.is ∙ ap (λ set. cond set f.one f.zero) c.is_set-set.ensures in
         let lt : c.args.bit < f.bit = subst (λ (g : Fork). c.args.bit < g.bit) (same_Some _ _ (sym (c.requires.higher).1 ∙ c.fork_in-fork.ensures)) (c.requires.higher).2 in
         let can' : CanGrow key old top (Branch c.args.above) (fork c.args.above f.bit there.x there.y) n c.args.bit c.args.slot =
         subst (λ z. CanGrow key old top (Branch c.args.above) z n c.args.bit c.args.slot) there.is can in

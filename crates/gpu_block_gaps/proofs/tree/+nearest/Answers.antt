@@ -23,7 +23,7 @@ nearest-requires t c =
     let f = c.fork_in-fork.result in
     let there = fork_read slots 128 c.args.node c.requires.0 c.in-Branch.slot f c.requires.1 c.in-Branch.is c.fork_in-fork.ensures in
     let b = bit_of (code_of c.args.key) f.bit in
-    let way : c.branch-fork.result ≡ cond b f.one f.zero = c.branch-fork.ensures ∙ ap (λ set. cond set f.one f.zero) c.is_set.ensures in
+    let way : c.branch-fork.result ≡ cond b f.one f.zero = c.branch-fork.ensures.is ∙ ap (λ set. cond set f.one f.zero) c.is_set.ensures in
     let laid : Lays slots f.bit c.branch-fork.result (cond b there.y there.x) =
     subst (λ (n : Node). Lays slots f.bit n (cond b there.y there.x)) (sym way) (lays_branch b slots f.bit f.zero f.one there.x there.y there.left there.right) in
     let smaller : rank slots c.branch-fork.result < rank slots c.args.node = falls slots c.in-Branch.slot c.args.node f c.branch-fork.result _ c.in-Branch.is c.fork_in-fork.ensures laid in
@@ -39,7 +39,7 @@ returns-in-Branch t c = λ u standing.
     let f = c.fork_in-fork.result in
     let there = fork_read slots 128 c.args.node u c.in-Branch.slot f standing c.in-Branch.is c.fork_in-fork.ensures in
     let b = bit_of n f.bit in
-    let way : c.branch-fork.result ≡ cond b f.one f.zero = c.branch-fork.ensures ∙ ap (λ set. cond set f.one f.zero) c.is_set.ensures in
+    let way : c.branch-fork.result ≡ cond b f.one f.zero = c.branch-fork.ensures.is ∙ ap (λ set. cond set f.one f.zero) c.is_set.ensures in
     let laid : Lays slots f.bit c.branch-fork.result (cond b there.y there.x) =
     subst (λ (n : Node). Lays slots f.bit n (cond b there.y there.x)) (sym way) (lays_branch b slots f.bit f.zero f.one there.x there.y there.left there.right) in
     c.nearest.ensures (cond b there.y there.x) (lays_under slots f.bit 128 c.branch-fork.result _ laid (let below = there.below in omega arith))

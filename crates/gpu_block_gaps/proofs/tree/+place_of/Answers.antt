@@ -25,7 +25,7 @@ place_of-requires t c =
     let f = c.fork_in-fork.result in
     let there = fork_read slots 128 c.args.node (c.requires.laid).0 c.in-Branch.at f (c.requires.laid).1 c.in-Branch.is c.fork_in-fork.ensures in
     let b = bit_of (code_of c.args.key) f.bit in
-    let way : c.branch-fork.result ≡ cond b f.one f.zero = c.branch-fork.ensures ∙ ap (λ set. cond set f.one f.zero) c.is_set.ensures in
+    let way : c.branch-fork.result ≡ cond b f.one f.zero = c.branch-fork.ensures.is ∙ ap (λ set. cond set f.one f.zero) c.is_set.ensures in
     let laid : Lays slots f.bit c.branch-fork.result (cond b there.y there.x) =
     subst (λ (n : Node). Lays slots f.bit n (cond b there.y there.x)) (sym way) (lays_branch b slots f.bit f.zero f.one there.x there.y there.left there.right) in
     let smaller : rank slots c.branch-fork.result < rank slots c.args.node = falls slots c.in-Branch.at c.args.node f c.branch-fork.result _ c.in-Branch.is c.fork_in-fork.ensures laid in
@@ -38,7 +38,7 @@ returns-then-bit-fork t c = λ key u standing split.
     let f = c.fork_in-fork.result in
     let there = fork_read slots 128 c.args.node u c.in-Branch.at f standing c.in-Branch.is c.fork_in-fork.ensures in
     let b = bit_of n f.bit in
-    let way : c.branch-fork.result ≡ cond b f.one f.zero = c.branch-fork.ensures ∙ ap (λ set. cond set f.one f.zero) c.is_set.ensures in
+    let way : c.branch-fork.result ≡ cond b f.one f.zero = c.branch-fork.ensures.is ∙ ap (λ set. cond set f.one f.zero) c.is_set.ensures in
     let laid : Lays slots f.bit c.branch-fork.result (cond b there.y there.x) =
     subst (λ (n : Node). Lays slots f.bit n (cond b there.y there.x)) (sym way) (lays_branch b slots f.bit f.zero f.one there.x there.y there.left there.right) in
     let split' : IsSplit key (fork c.in-Branch.at f.bit there.x there.y) n c.args.bit = subst (λ z. IsSplit key z n c.args.bit) there.is split in

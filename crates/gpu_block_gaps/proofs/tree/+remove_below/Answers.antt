@@ -50,7 +50,7 @@ remove_below-requires t c =
     let way : cond b f.one f.zero ≡ Branch c.args.below = ap (λ set. cond set f.one f.zero) (sym c.requires.set) ∙ c.requires.deeper in
     let laid = laid_below slots b f.bit c.args.below f.zero f.one there.x there.y way there.left there.right in
     let smaller : rank slots (Branch c.args.below) < rank slots (Branch c.args.slot) = falls slots c.args.slot (Branch c.args.slot) f (Branch c.args.below) _ refl c.requires.read laid in
-    (search rules, ((cond b there.y there.x, lays_under slots f.bit 128 (Branch c.args.below) _ laid (let high = there.below in omega arith)), (c.fork_in-next.ensures, (c.is_set-on.ensures, sym c.branch-leaf.ensures ∙ c.in_Branch-leaf.is))))
+    (search rules, ((cond b there.y there.x, lays_under slots f.bit 128 (Branch c.args.below) _ laid (let high = there.below in omega arith)), (c.fork_in-next.ensures, (c.is_set-on.ensures, sym c.branch-leaf.ensures.is ∙ c.in_Branch-leaf.is))))
 
 turned : (c : Bool) (zero one : Node) → cond (not c) one zero ≡ cond c zero one
 turned true zero one = refl
@@ -82,9 +82,9 @@ returns-in_Leaf-leaf-clause-tree t c = λ key top u laid sorted.
     let standing = laid_below old b f.bit low f.zero f.one there.x there.y way there.left there.right in
     let next = fork_read old f.bit (Branch low) (cond b there.y there.x) low g standing refl c.fork_in-next.ensures in
     let d = bit_of n g.bit in
-    let end : cond d g.one g.zero ≡ Leaf c.in_Leaf-leaf.leaf = sym (c.branch-leaf.ensures ∙ ap (λ set. cond set g.one g.zero) c.is_set-on.ensures) ∙ c.in_Leaf-leaf.is in
+    let end : cond d g.one g.zero ≡ Leaf c.in_Leaf-leaf.leaf = sym (c.branch-leaf.ensures.is ∙ ap (λ set. cond set g.one g.zero) c.is_set-on.ensures) ∙ c.in_Leaf-leaf.is in
     let last = tip_there old g.bit _ (cond d next.y next.x) c.in_Leaf-leaf.leaf (lays_branch d old g.bit g.zero g.one next.x next.y next.left next.right) end in
-    let other : c.branch-next.result ≡ cond d g.zero g.one = c.branch-next.ensures ∙ turned c.is_set-on.result g.zero g.one ∙ ap (λ set. cond set g.zero g.one) c.is_set-on.ensures in
+    let other : c.branch-next.result ≡ cond d g.zero g.one = c.branch-next.ensures.is ∙ turned c.is_set-on.result g.zero g.one ∙ ap (λ set. cond set g.zero g.one) c.is_set-on.ensures in
     let cut : HasPruned old old f.bit c.branch-next.result (cond b there.y there.x) n low =
     subst (λ z. HasPruned old old f.bit c.branch-next.result z n low) (sym next.is)
     (subst (λ (m : Node). HasPruned old old f.bit m (fork low g.bit next.x next.y) n low) (sym other)
@@ -111,7 +111,7 @@ returns-in_Leaf-leaf-clause-leaf t c = λ u laid.
     let standing = laid_below slots b f.bit c.args.below f.zero f.one there.x there.y way there.left there.right in
     let next = fork_read slots f.bit (Branch c.args.below) (cond b there.y there.x) c.args.below g standing refl c.fork_in-next.ensures in
     let d = bit_of n g.bit in
-    let end : cond d g.one g.zero ≡ Leaf c.in_Leaf-leaf.leaf = sym (c.branch-leaf.ensures ∙ ap (λ set. cond set g.one g.zero) c.is_set-on.ensures) ∙ c.in_Leaf-leaf.is in
+    let end : cond d g.one g.zero ≡ Leaf c.in_Leaf-leaf.leaf = sym (c.branch-leaf.ensures.is ∙ ap (λ set. cond set g.one g.zero) c.is_set-on.ensures) ∙ c.in_Leaf-leaf.is in
     let alone = tip_at slots g.bit _ (cond d next.y next.x) c.in_Leaf-leaf.leaf (lays_branch d slots g.bit g.zero g.one next.x next.y next.left next.right) end in
     sym (ap (near n) there.is ∙ sym (near_branch b n there.x there.y) ∙ ap (near n) next.is ∙ sym (near_branch d n next.x next.y) ∙ ap (near n) alone)
 

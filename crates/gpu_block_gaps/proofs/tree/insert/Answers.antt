@@ -17,15 +17,15 @@ fork_in-requires c =
     let there = fork_at (slice_get c.args.forks.now) 128 c.args.node (c.requires.laid).0 c.in-Branch.at (c.requires.laid).1 c.in-Branch.is in
     slice_get_within c.args.forks.now c.in-Branch.at _ there.read
 
-pub returns-then-bit-fork_in : goal.returns-then-bit-fork_in
-returns-then-bit-fork_in c = λ key top u can.
+pub returns-then-bit-fork_in-clause-grown : goal.returns-then-bit-fork_in-clause-grown
+returns-then-bit-fork_in-clause-grown c = λ key top u can.
     c.insert_below.ensures key top u (subst (λ (m : Node). CanGrow key (slice_get c.args.forks.now) top m u (code_of c.args.key) c.args.bit c.args.slot) c.in-Branch.is can)
 
 bit_same : (k j b d : ℕ) (x y v w : Tree) → fork k b x y ≡ fork j d v w → b ≡ d
 bit_same k j b d x y v w same = cc
 
-pub returns : goal.returns
-returns c = λ key top u can. by_tree key top u can
+pub returns-clause-grown : goal.returns-clause-grown
+returns-clause-grown c = λ key top u can. by_tree key top u can
   where
     n : ℕ
     n = code_of c.args.key

@@ -11,12 +11,12 @@ use Rattle.gpu_block_gaps.proofs.tree.remove.Goals as goal
 
 pub fork_in-fork-requires : goal.fork_in-fork-requires
 fork_in-fork-requires c =
-    let there = fork_at (slice_get c.args.forks.now) 128 (Branch c.args.slot) c.requires.0 c.args.slot c.requires.1 refl in
+    let there = fork_at (slice_get c.args.forks.now) 128 (Branch c.args.slot) c.requires.laid.0 c.args.slot c.requires.laid.1 refl in
     slice_get_within c.args.forks.now c.args.slot _ there.read
 
 pub is_set-set-requires : goal.is_set-set-requires
 is_set-set-requires c =
-    let there = fork_read (slice_get c.args.forks.now) 128 (Branch c.args.slot) c.requires.0 c.args.slot c.fork_in-fork.result c.requires.1 refl c.fork_in-fork.ensures in
+    let there = fork_read (slice_get c.args.forks.now) 128 (Branch c.args.slot) c.requires.laid.0 c.args.slot c.fork_in-fork.result c.requires.laid.1 refl c.fork_in-fork.ensures in
     there.below
 
 turned : (c : Bool) (zero one : Node) → cond (not c) one zero ≡ cond c zero one
@@ -38,10 +38,10 @@ returns-in_Leaf-leaf-clause-tree c = λ key top u laid sorted.
     let there = fork_read slots top (Branch c.args.slot) u c.args.slot f laid refl c.fork_in-fork.ensures in
     let b = bit_of n f.bit in
     let way : cond b f.one f.zero ≡ Leaf c.in_Leaf-leaf.leaf =
-    sym (c.branch-leaf.ensures ∙ ap (λ set. cond set f.one f.zero) c.is_set-set.ensures) ∙ c.in_Leaf-leaf.is in
+    sym (c.branch-leaf.ensures.is ∙ ap (λ set. cond set f.one f.zero) c.is_set-set.ensures) ∙ c.in_Leaf-leaf.is in
     let last = tip_there slots f.bit _ (cond b there.y there.x) c.in_Leaf-leaf.leaf (lays_branch b slots f.bit f.zero f.one there.x there.y there.left there.right) way in
     let other : c.branch-fork.result ≡ cond b f.zero f.one =
-    c.branch-fork.ensures ∙ turned c.is_set-set.result f.zero f.one ∙ ap (λ set. cond set f.zero f.one) c.is_set-set.ensures in
+    c.branch-fork.ensures.is ∙ turned c.is_set-set.result f.zero f.one ∙ ap (λ set. cond set f.zero f.one) c.is_set-set.ensures in
     subst (λ z. HasPruned slots slots top c.branch-fork.result z n c.args.slot) (sym there.is)
     (subst (λ (m : Node). HasPruned slots slots top m (fork c.args.slot f.bit there.x there.y) n c.args.slot) (sym other)
     (pruned_tip key slots top c.args.slot f.bit f.zero f.one there.x there.y n there.left there.right there.below b refl last))
@@ -54,6 +54,6 @@ returns-in_Leaf-leaf-clause-leaf c = λ u laid.
     let there = fork_read slots 128 (Branch c.args.slot) u c.args.slot f laid refl c.fork_in-fork.ensures in
     let b = bit_of n f.bit in
     let way : cond b f.one f.zero ≡ Leaf c.in_Leaf-leaf.leaf =
-    sym (c.branch-leaf.ensures ∙ ap (λ set. cond set f.one f.zero) c.is_set-set.ensures) ∙ c.in_Leaf-leaf.is in
+    sym (c.branch-leaf.ensures.is ∙ ap (λ set. cond set f.one f.zero) c.is_set-set.ensures) ∙ c.in_Leaf-leaf.is in
     let alone = tip_at slots f.bit _ (cond b there.y there.x) c.in_Leaf-leaf.leaf (lays_branch b slots f.bit f.zero f.one there.x there.y there.left there.right) way in
     sym (ap (near n) there.is ∙ sym (near_branch b n there.x there.y) ∙ ap (near n) alone)

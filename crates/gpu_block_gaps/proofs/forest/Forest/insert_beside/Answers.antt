@@ -13,14 +13,16 @@ use Rattle.gpu_block_gaps.proofs.forest.Forest.insert_beside.Goals as goal
 pub insert-root-requires-clause-laid : goal.insert-root-requires-clause-laid
 insert-root-requires-clause-laid c =
     let known = c.requires.there in
-    let there = tree_there known.0 _ _ _ _ _ _ known.1 known.2 c.class-class.result c.in-Some-Some.root (sym c.in-Some-Some.ensures) in
+    let there = tree_there known.0 _ _ _ _ _ _ known.1 known.2 c.class-class.result c.in-Some-Some.root (sym c.in-Some-Some.ensures.is) in
     (there.tree, subst (λ (fs : List Fork). Lays (slice_get fs) 128 c.in-Some-Some.root there.tree) (sym c.deref_mut.ensures.value) there.laid)
 
 pub insert-root-requires-clause-slot : goal.insert-root-requires-clause-slot
 insert-root-requires-clause-slot c =
     let known = c.requires.there in
     let free = slot_vacant known.0 _ _ _ _ _ _ known.1 known.2 c.pop.new.self.items c.in-Some-Some.slot c.in-Some-Some.ensures'.items in
-    subst (λ (fs : List Fork). c.in-Some-Some.slot < length fs) (sym c.deref_mut.ensures.value) free.0
+    let short = known.2.short in
+    let within = free.0 in
+    (subst (λ (fs : List Fork). c.in-Some-Some.slot < length fs) (sym c.deref_mut.ensures.value) free.0, omega arith)
 
 pub returns-clause-trees : goal.returns-clause-trees
 returns-clause-trees c = λ key trees t are has is split.
@@ -28,8 +30,8 @@ returns-clause-trees c = λ key trees t are has is split.
     let class = c.class-class.ensures.class in
     let slot = c.in-Some-Some.slot in
     let was = c.in-Some-Some.ensures'.items in
-    let rooted = sym c.in-Some-Some.ensures in
-    let within : c.class-class.result < length self.roots.items = root_within self.roots.items c.class-class.result c.in-Some-Some.root (sym c.in-Some-Some.ensures) in
+    let rooted = sym c.in-Some-Some.ensures.is in
+    let within : c.class-class.result < length self.roots.items = root_within self.roots.items c.class-class.result c.in-Some-Some.root (sym c.in-Some-Some.ensures.is) in
     let there : tree_at trees c.class-class.result ≡ Some t = ap (tree_at trees) class ∙ is in
     let n = code_of c.args.key in
     let can = beside_can key _ _ _ _ _ _ trees are c.pop.new.self.items slot c.class-class.result c.in-Some-Some.root t n c.args.bit was rooted there split c.requires.bit in
@@ -44,7 +46,7 @@ returns-clause-trees c = λ key trees t are has is split.
     let new = grown n bit leaf slot t in
     let can' : CanGrow key (slice_get c.deref_mut.result.now) 128 node t n bit slot = subst (λ (fs : List Fork). CanGrow key (slice_get fs) 128 node t n bit slot) (sym value) can in
     let grew : HasGrown (slice_get self.forks.items) (slice_get forks') 128 node' t new slot =
-    subst (λ (fs : List Fork). HasGrown (slice_get fs) (slice_get forks') 128 node' t new slot) value (c.insert-root.ensures key 128 t can') in
+    subst (λ (fs : List Fork). HasGrown (slice_get fs) (slice_get forks') 128 node' t new slot) value (c.insert-root.ensures.grown key 128 t can') in
     let long : length forks' ≡ length self.forks.items = (let a = c.insert-root.auto.forks in let b = ap length value in omega arith) in
     let planted = beside_planted key _ _ _ _ _ _ trees are forks' spare' slot at node node' t n bit leaf was rooted there split class within has long grew in
     let rooted' = subst (λ (r : Option Node). AreTrees key self.scale forks' spare' (vec_capacity self.spare) (set self.roots.items at r) self.classes (set trees at (Some new))) (sym c.at.ensures) planted in

@@ -17,10 +17,10 @@ use Rattle.gpu_block_gaps.proofs.forest.Forest.remove.Goals as goal
 fork_there : (slots : Slots) (u : Tree) (at : ℕ) → Lays slots 128 (Branch at) u → is_tip u ≡ false
 fork_there slots u at laid = let there = fork_at slots 128 (Branch at) u at laid refl in ap is_tip there.is
 
-pub remove-cut-requires : goal.remove-cut-requires
-remove-cut-requires c =
+pub remove-cut-requires-clause-laid : goal.remove-cut-requires-clause-laid
+remove-cut-requires-clause-laid c =
     let known = c.requires in
-    let read = c.root.ensures in
+    let read = c.root.ensures.is in
     let rooted : root_at c.args.self.now.roots.items c.class-class.result ≡ Some (Branch c.in-Some-Branch.slot) = cc in
     let there = tree_there known.0 _ _ _ _ _ _ known.1 known.2 c.class-class.result (Branch c.in-Some-Branch.slot) rooted in
     (there.tree, subst (λ (fs : List Fork). Lays (slice_get fs) 128 (Branch c.in-Some-Branch.slot) there.tree) (sym c.deref_mut.ensures.value) there.laid)
@@ -28,7 +28,7 @@ remove-cut-requires c =
 pub push_reserved-requires : goal.push_reserved-requires
 push_reserved-requires c =
     let known = c.requires in
-    let read = c.root.ensures in
+    let read = c.root.ensures.is in
     let rooted : root_at c.args.self.now.roots.items c.class-class.result ≡ Some (Branch c.in-Some-Branch.slot) = cc in
     let there = tree_there known.0 _ _ _ _ _ _ known.1 known.2 c.class-class.result (Branch c.in-Some-Branch.slot) rooted in
     let room : length c.args.self.now.spare.items < vec_capacity c.args.self.now.spare =
@@ -41,7 +41,7 @@ returns-in-Some-Branch-clause-trees c = λ key trees t are is.
     let class = c.class-class.ensures.class in
     let at = c.class-class.result in
     let node = Branch c.in-Some-Branch.slot in
-    let read = c.root.ensures in
+    let read = c.root.ensures.is in
     let rooted : root_at c.args.self.now.roots.items c.class-class.result ≡ Some (Branch c.in-Some-Branch.slot) = cc in
     let within : at < length self.roots.items = root_within self.roots.items at node rooted in
     let found : tree_at trees at ≡ Some t = ap (tree_at trees) class ∙ is in
@@ -81,7 +81,7 @@ returns-in-Some-Leaf-clause-trees c = λ key trees t are is.
     let class = c.class-class.ensures.class in
     let at = c.class-class.result in
     let leaf = c.in-Some-Leaf.leaf in
-    let read = c.root.ensures in
+    let read = c.root.ensures.is in
     let rooted : root_at c.args.self.now.roots.items c.class-class.result ≡ Some (Leaf c.in-Some-Leaf.leaf) = cc in
     let within : at < length self.roots.items = root_within self.roots.items at (Leaf leaf) rooted in
     let there = tree_there key _ _ _ _ _ _ trees are at (Leaf leaf) rooted in
@@ -102,7 +102,7 @@ returns-in-Some-Branch-clause-leaf c = λ key trees t are is.
     let class = c.class-class.ensures.class in
     let at = c.class-class.result in
     let node = Branch c.in-Some-Branch.slot in
-    let read = c.root.ensures in
+    let read = c.root.ensures.is in
     let rooted : root_at c.args.self.now.roots.items c.class-class.result ≡ Some (Branch c.in-Some-Branch.slot) = cc in
     let there = tree_there key _ _ _ _ _ _ trees are at node rooted in
     let same : there.tree ≡ t = same_Some _ _ (sym there.is ∙ ap (tree_at trees) class ∙ is) in
@@ -115,7 +115,7 @@ returns-in-Some-Leaf-clause-leaf c = λ key trees t are is.
     let class = c.class-class.ensures.class in
     let at = c.class-class.result in
     let leaf = c.in-Some-Leaf.leaf in
-    let read = c.root.ensures in
+    let read = c.root.ensures.is in
     let rooted : root_at c.args.self.now.roots.items c.class-class.result ≡ Some (Leaf c.in-Some-Leaf.leaf) = cc in
     let there = tree_there key _ _ _ _ _ _ trees are at (Leaf leaf) rooted in
     let same : there.tree ≡ t = same_Some _ _ (sym there.is ∙ ap (tree_at trees) class ∙ is) in
