@@ -4,7 +4,7 @@ use Rattle.std.proofs.lemmas.Bool.Decides.{nat_tests}
 use Rattle.gpu_block_chunks.specs.declared.chunk.Chunk.{Chunk}
 use Rattle.gpu_block_chunks.specs.Chain.{Node}
 use Rattle.gpu_block_chunks.specs.ChunkList.{Covers}
-use Rattle.gpu_block_chunks.specs.Chain.{first_or, last_or, node_of, Held, Apart, Distinct, Among, Stands, IsChain, met, walk, chunks_in}
+use Rattle.gpu_block_chunks.specs.Chain.{first_or, last_or, node_of, Held, Apart, Distinct, Numbered, Among, Stands, IsChain, met, walk, chunks_in}
 
 pub stands_from : (k : ℕ) (c : Chunk) (cs : List (ℕ × Chunk)) → Among k c cs → Stands cs k c
 stands_from k c [] h = elim h [ ]
@@ -25,6 +25,10 @@ apart_test_back k q apart = apart_test q k (λ (e : q ≡ k). apart (sym e))
 pub apart_append : (k : ℕ) (xs ys : List (ℕ × Chunk)) → Apart k (xs ++ ys) → Apart k xs × Apart k ys
 apart_append k [] ys h = (tt, h)
 apart_append k (x ∷ xs) ys h = let r = apart_append k xs ys h.1 in ((h.0, r.0), r.1)
+
+pub numbered_at : (front : List (ℕ × Chunk)) (k : ℕ) (c : Chunk) (back : List (ℕ × Chunk)) → Numbered (front ++ (k, c) ∷ back) → c.chunk_id ≡ k
+numbered_at [] k c back h = h.0
+numbered_at (x ∷ xs) k c back h = numbered_at xs k c back h.1
 
 -- the numbers in front of a chunk are not its number
 pub apart_front : (front : List (ℕ × Chunk)) (k : ℕ) (c : Chunk) (back : List (ℕ × Chunk)) → Distinct (front ++ (k, c) ∷ back) → Apart k front

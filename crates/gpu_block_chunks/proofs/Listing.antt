@@ -1,22 +1,23 @@
 -- A chain's list of chunks, and the same list with each chunk beside the number that it is held under.
-use Rattle.std.proofs.Common.{◌≡◌, ◌≢◌, ℕ, List, [], ◌∷◌, ◌++◌, length, Option, Some, None, refl, sym, ap, ◌∙◌, subst, inl, inr, arith, cond, true, false, Bool, ◌==◌}
-use Rattle.std.specs.Prelude.{is_some}
+use Rattle.std.proofs.Common.{◌≡◌, ◌≢◌, ◌<◌, ◌^◌, ℕ, List, [], ◌∷◌, ◌++◌, length, Option, Some, None, refl, sym, ap, ◌∙◌, subst, inl, inr, arith, cond, true, false, Bool, ◌==◌}
 use Rattle.std.specs.Option.{option_map}
 use Rattle.std.proofs.lemmas.List.{append_assoc}
+use Rattle.std.proofs.lemmas.Option.{same_Some}
 use Rattle.std.proofs.lemmas.List.Elements.{All-nil, All-cons, All-head, All-tail}
 use Rattle.gpu_block_chunks.specs.declared.chunk.Chunk.{Chunk}
 use Rattle.gpu_block_chunks.specs.Chain.{Node}
 use Rattle.gpu_block_chunks.specs.declared.chain.Neighbour.{Neighbour}
+use Rattle.gpu_block_chunks.specs.declared.chain.Neighbours.{Neighbours}
 use Rattle.gpu_values.specs.declared.allocation_type.AllocationType.{AllocationType}
 use Rattle.gpu_values.specs.declared.allocation_type.AllocationType.TheVariants.{Free, Linear, NonLinear}
-use Rattle.gpu_block_chunks.specs.ChunkList.{filled_chunk, cut_chunk, join_kinds, join_back, join_front, AreDistinct}
+use Rattle.gpu_block_chunks.specs.ChunkList.{IsFree, filled_chunk, cut_chunk, join_kinds, join_back, join_front, AreDistinct}
 use Rattle.gpu_block_chunks.specs.Chain.{Name, first_or, last_or, node_of, Held, Apart, Distinct, Numbered, Among, IsChain, chunks_in, StandsAt, HasChunkId, HasNoChunkId, AreNeighbours, IsChunkAt}
-use Rattle.gpu_block_chunks.specs.Chain.{IsLonger, IsSplit, IsFilled, IsReleased, from_chunk_id, beside, beside_of, last_beside, first_beside, longer, right_chunk, right_rest, glue_left}
-use Rattle.gpu_block_chunks.specs.Chain.{is_free_kind, front_piece, ChangesAt, used_node, JoinsRight, JoinsLeft, walk}
-use Rattle.gpu_block_chunks.proofs.Links.{stands_from, same_test, apart_test, apart_front, held_front, held_back, apart_from_none}
+use Rattle.gpu_block_chunks.specs.Chain.{IsLonger, IsSplit, IsFilled, IsReleased, from_chunk_id, beside, beside_of, around_of, last_beside, first_beside, longer, right_chunk, right_rest, glue_left}
+use Rattle.gpu_block_chunks.specs.Chain.{is_free_kind, front_piece, ChangesAt, used_node, JoinsRight, JoinsLeft, JoinsUnder, LinkedAt, HasNoPiece, ReleasesPiece, first_of, walk}
+use Rattle.gpu_block_chunks.proofs.Links.{numbered_at, stands_from, same_test, apart_test, apart_front, held_front, held_back, apart_from_none}
 use Rattle.gpu_block_chunks.proofs.Parts.{All-parts}
 use Rattle.gpu_block_chunks.proofs.Splits.{IsCut, CanSplit}
-use Rattle.gpu_block_chunks.proofs.Unlinks.{freed, Opened, opened, fill_done, release_done}
+use Rattle.gpu_block_chunks.proofs.Unlinks.{freed, Opened, opened, fill_done, release_done, right_ready, left_ready, under_done}
 
 cons_parts : {X : Type 0} (c d : X) (b e : List X) → c ∷ b ≡ d ∷ e → (c ≡ d) × (b ≡ e)
 cons_parts c d b e h = (cc, cc)
@@ -36,10 +37,6 @@ among_of (p ∷ ps) (f ∷ fs) back c e n =
 
 pub among_stands : (ps : List (ℕ × Chunk)) (cs : List Chunk) (k : ℕ) (c : Chunk) → chunks_in ps ≡ cs → Numbered ps → StandsAt cs k c → Among k c ps
 among_stands ps cs k c e n s = subst (λ (q : ℕ). Among q c ps) s.numbered (among_of ps s.front s.back c (e ∙ s.split) n)
-
-pub numbered_at : (front : List (ℕ × Chunk)) (k : ℕ) (c : Chunk) (back : List (ℕ × Chunk)) → Numbered (front ++ (k, c) ∷ back) → c.chunk_id ≡ k
-numbered_at [] k c back h = h.0
-numbered_at (x ∷ xs) k c back h = numbered_at xs k c back h.1
 
 pub numbered_front : (xs ys : List (ℕ × Chunk)) → Numbered (xs ++ ys) → Numbered xs
 numbered_front [] ys h = tt
@@ -64,14 +61,6 @@ apart_of k (x ∷ xs) h n =
 
 -- ---- what is beside a chunk
 
-some_last : (b : Option ℕ) (kb : Option Neighbour) (xs : List (ℕ × Chunk)) → is_some b ≡ is_some kb → is_some (last_or b xs) ≡ is_some (last_beside kb (chunks_in xs))
-some_last b kb [] e = e
-some_last b kb (x ∷ xs) e = some_last (Some x.0) (Some (beside x.1)) xs refl
-
-some_first : (xs : List (ℕ × Chunk)) → is_some (first_or xs None) ≡ is_some (first_beside (chunks_in xs))
-some_first [] = refl
-some_first (x ∷ xs) = refl
-
 module _ (f : ℕ → Option Node) where
   last_beside_is : (b : Option ℕ) (kb : Option Neighbour) (xs : List (ℕ × Chunk)) (a : Option ℕ) → Held f b xs a → beside_of f b ≡ kb → beside_of f (last_or b xs) ≡ last_beside kb (chunks_in xs)
   last_beside_is b kb [] a h e = e
@@ -82,9 +71,8 @@ module _ (f : ℕ → Option Node) where
   first_beside_is b (x ∷ xs) h = ap (λ (o : Option Node). option_map (λ (n : Node). beside n.chunk) o) h.0
 
   pub is_around : (first size : ℕ) (ps : List (ℕ × Chunk)) (cs : List Chunk) → IsChain f first size ps → chunks_in ps ≡ cs → (k : ℕ) (n : Node) → f k ≡ Some n
-      → (before after : Option Neighbour) (slot slot_before : ℕ) → before ≡ beside_of f n.prev → after ≡ beside_of f n.next
-      → AreNeighbours cs k (record { here = beside n.chunk; before = before; after = after; slot = slot; slot_before = slot_before })
-  is_around first size ps cs chain e k n at before after slot slot_before eb ea =
+      → AreNeighbours cs k (around_of f n)
+  is_around first size ps cs chain e k n at =
       let s = stands_from k n.chunk ps (chain.every k n at) in
       let h = subst (λ (ys : List (ℕ × Chunk)). Held f None ys None) s.is chain.held in
       let front = held_front f None s.front ((k, n.chunk) ∷ s.back) None h in
@@ -96,25 +84,9 @@ module _ (f : ℕ → Option Node) where
         chunk = n.chunk;
         at = stands_of ps s.front s.back cs k n.chunk s.is e chain.numbered;
         here = refl;
-        before = eb ∙ ap (beside_of f) prev ∙ last_beside_is None None s.front (Some k) front refl;
-        after = ea ∙ ap (beside_of f) next ∙ first_beside_is (Some k) s.back back.1;
+        before = ap (beside_of f) prev ∙ last_beside_is None None s.front (Some k) front refl;
+        after = ap (beside_of f) next ∙ first_beside_is (Some k) s.back back.1;
       }
-
-  -- a chunk has a number beside it where it has a chunk beside it
-  pub sides : (first size : ℕ) (ps : List (ℕ × Chunk)) → IsChain f first size ps → (k : ℕ) (n : Node) → f k ≡ Some n
-      → (before after : Option Neighbour) → before ≡ beside_of f n.prev → after ≡ beside_of f n.next
-      → (is_some before ≡ is_some n.prev) × (is_some after ≡ is_some n.next)
-  sides first size ps chain k n at before after eb ea =
-      let s = stands_from k n.chunk ps (chain.every k n at) in
-      let h = subst (λ (ys : List (ℕ × Chunk)). Held f None ys None) s.is chain.held in
-      let front = held_front f None s.front ((k, n.chunk) ∷ s.back) None h in
-      let back = held_back f None s.front ((k, n.chunk) ∷ s.back) None h in
-      let is : Some n ≡ Some (node_of n.chunk (last_or None s.front) (first_or s.back None)) = sym at ∙ back.0 in
-      let prev : n.prev ≡ last_or None s.front = cc in
-      let next : n.next ≡ first_or s.back None = cc in
-      let b : before ≡ last_beside None (chunks_in s.front) = eb ∙ ap (beside_of f) prev ∙ last_beside_is None None s.front (Some k) front refl in
-      let a : after ≡ first_beside (chunks_in s.back) = ea ∙ ap (beside_of f) next ∙ first_beside_is (Some k) s.back back.1 in
-      (ap is_some b ∙ (sym (some_last None None s.front refl) ∙ ap is_some (sym prev)), ap is_some a ∙ (sym (some_first s.back) ∙ ap is_some (sym next)))
 
 -- ---- the list from a number on
 
@@ -281,3 +253,71 @@ one_split (x ∷ xs) c back (y ∷ ys) d rest e w n =
 pub stands_once : (cs front back : List Chunk) (c d : Chunk) (k : ℕ) → AreDistinct cs → (s : StandsAt cs k d) → cs ≡ front ++ c ∷ back → c.chunk_id ≡ k → SameSplit front c back s.front d s.back
 stands_once cs front back c d k w s p n =
     one_split front c back s.front d s.back (sym p ∙ s.split) (subst (λ (xs : List Chunk). AreDistinct xs) p w) (n ∙ sym s.numbered)
+
+-- ---- a piece that is released
+
+told : (f : ℕ → Option Node) (o : Option Node) (a : Neighbours) → option_map (around_of f) o ≡ Some a → (n : Node) × (o ≡ Some n) × (around_of f n ≡ a)
+told f None a e = cc
+told f (Some n) a e = (n, refl, same_Some (around_of f n) a e)
+
+neighbours_at : (f : ℕ → Option Node) (first size : ℕ) (ps : List (ℕ × Chunk)) → IsChain f first size ps → (k : ℕ) (a : Neighbours) → option_map (around_of f) (f k) ≡ Some a
+    → AreNeighbours (chunks_in ps) k a
+neighbours_at f first size ps chain k a e =
+    let t = told f (f k) a e in
+    subst (λ (x : Neighbours). AreNeighbours (chunks_in ps) k x) t.2 (is_around f first size ps (chunks_in ps) chain refl k t.0 t.1)
+
+module _ (f : ℕ → Option Node) (first size : ℕ) (ps : List (ℕ × Chunk)) (cs : List Chunk) (chain : IsChain f first size ps) (shown : chunks_in ps ≡ cs) where
+  pub none_free : (k : ℕ) → f k ≡ None → HasNoPiece cs k
+  none_free k none = λ c at.
+      let h = subst (λ (xs : List Chunk). HasNoChunkId xs k) at.split (none_held f first size ps cs chain shown k none) in
+      absurd (All-head (λ (x : Chunk). x.chunk_id ≢ k) c at.back (All-parts (λ (x : Chunk). x.chunk_id ≢ k) at.front (c ∷ at.back) h).1 at.numbered)
+
+  stands_beside : (k : ℕ) (a : Neighbours) → option_map (around_of f) (f k) ≡ Some a → AreNeighbours cs k a
+  stands_beside k a e = subst (λ (xs : List Chunk). AreNeighbours xs k a) shown (neighbours_at f first size ps chain k a e)
+
+  pub free_alone : (k : ℕ) (a : Neighbours) → option_map (around_of f) (f k) ≡ Some a → IsFree a.here.kind → HasNoPiece cs k
+  free_alone k a e free = λ c at.
+      let m = stands_beside k a e in
+      let s = stands_once cs at.front at.back c m.chunk k (distinct_listed f first size ps cs chain shown) m.at at.split at.numbered in
+      subst (λ (x : Chunk). IsFree x.kind) (sym s.chunks) (subst (λ (b : Neighbour). IsFree b.kind) m.here free)
+
+  starts_at : (k : ℕ) (a : Neighbours) → option_map (around_of f) (f k) ≡ Some a → (n : Node) → f k ≡ Some n → a.here.start ≡ (n.chunk).start
+  starts_at k a e n at = ap (λ (x : Neighbours). x.here.start) (sym (same_Some (around_of f n) a (sym (ap (option_map (around_of f)) at) ∙ e)))
+
+  module _ (k : ℕ) (was : Neighbours) (e : option_map (around_of f) (f k) ≡ Some was) (f1 : ℕ → Option Node) (change : ChangesAt k (used_node was.here.start Free []) f f1) where
+    has : HasChunkId cs k
+    has = let m = stands_beside k was e in (m.chunk, m.at)
+
+    o : Opened f first size ps k
+    o = open_at f first size ps cs chain shown k has
+
+    pub right_linked : size < 2 ^ 64 → LinkedAt f1 k
+    right_linked fits = right_ready f f1 first size ps k was.here.start [] o (starts_at k was e) change fits
+
+    module _ (f2 : ℕ → Option Node) (right : JoinsRight k f1 f2) where
+      pub left_linked : size < 2 ^ 64 → LinkedAt f2 k
+      left_linked fits = left_ready f f1 first size ps k was.here.start [] o (starts_at k was e) change f2 right fits
+
+      module _ (f3 : ℕ → Option Node) (left : JoinsLeft k f2 f3) where
+        pub chain_left : IsChain f3 first size (walk size f3 (Some first))
+        chain_left = (released f first size ps cs chain shown f1 f2 f3 k was.here.start has (starts_at k was e) change right left).0
+
+        under_first : (j : ℕ) → JoinsUnder k f2 j → j ≡ first_of was.before k
+        under_first j under =
+            let m = stands_beside k was e in
+            let at = stands_of ps o.front o.back cs k o.chunk o.was shown chain.numbered in
+            let s = stands_once cs at.front at.back o.chunk m.chunk k (distinct_listed f first size ps cs chain shown) m.at at.split at.numbered in
+            under_done f f1 first size ps k was.here.start [] o (starts_at k was e) change f2 right j under
+            ∙ ap (λ (xs : List Chunk). first_of (last_beside None xs) k) s.fronts
+            ∙ ap (λ (b : Option Neighbour). first_of b k) (sym m.before)
+
+        pub piece_released : (IsFree was.here.kind → ⊥) → (j : ℕ) → JoinsUnder k f2 j → (is : Neighbours) → option_map (around_of f3) (f3 j) ≡ Some is
+            → ReleasesPiece cs k (chunks_in (walk size f3 (Some first))) was is
+        piece_released live j under is there =
+            let r = released f first size ps cs chain shown f1 f2 f3 k was.here.start has (starts_at k was e) change right left in
+            record {
+              before = stands_beside k was e;
+              live = live;
+              released = r.1;
+              after = subst (λ (q : ℕ). AreNeighbours (chunks_in (walk size f3 (Some first))) q is) (under_first j under) (neighbours_at f3 first size (walk size f3 (Some first)) r.0 j is there);
+            }

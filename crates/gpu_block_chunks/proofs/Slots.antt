@@ -1,6 +1,6 @@
 -- Chunks in slots: what is held under each number after one slot is written, a chunk is put into a slot, or taken out of it.
 use Rattle.std.proofs.Common.{◌≡◌, ◌≢◌, ℕ, Bool, ◌-◌, ◌<◌, ◌≤◌, ◌^◌, min, List, ◌++◌, length, get_or, set, replicate}
-use Rattle.std.proofs.Common.{Option, Some, None, is_some, IsSome, IsSomeAnd, IfSome, cond, ◌==◌, refl, sym, ap, ◌∙◌, subst, inl, inr, arith}
+use Rattle.std.proofs.Common.{Option, Some, None, IsSome, IsSomeAnd, IfSome, cond, ◌==◌, refl, sym, ap, ◌∙◌, subst, inl, inr, arith}
 use Rattle.std.specs.Borrow.{Bor}
 use Rattle.std.specs.Option.{option_map, option_copied}
 use Rattle.std.proofs.lemmas.Bool.{cases_eq, false≢true}
@@ -22,10 +22,6 @@ use Rattle.gpu_block_chunks.proofs.IdGrowth.{get_more}
 pub some_and : (P : Node → Type 0) → (o : Option Node) → IsSomeAnd o P → IsSome o
 some_and P None h = absurd h
 some_and P (Some n) h = refl
-
-pub linked_some : (link : Option Link) → is_some (link_chunk_id link) ≡ is_some link
-linked_some None = refl
-linked_some (Some l) = refl
 
 -- ---- where a link leads to
 id_of : LinkedChunk → ℕ
@@ -64,17 +60,19 @@ pub held_there : (ids : List (Option ℕ)) (chunks : List (Option LinkedChunk)) 
 held_there ids chunks sound s n at =
     ap (λ (o : Option ℕ). option_map (node_value ids) (stored_in chunks o)) (found_in ids chunks sound (n.chunk).chunk_id s (number_of_chunk ids chunks sound s n at)) ∙ ap (option_map (node_value ids)) at
 
--- a slot has what is held under its chunk's number
-pub held_in : (w v : Slotted) → w ≡ v → AreSound w.ids w.chunks → (s : ℕ) (n : LinkedChunk) (k : ℕ) → get_or w.chunks s None ≡ Some n → (n.chunk).chunk_id ≡ k → Some (node_value v.ids n) ≡ held_at v k
-held_in w v is sound s n k at same =
-    subst (λ (u : Slotted). Some (node_value u.ids n) ≡ held_at u k) is
-    (sym (ap (λ j. option_map (node_value w.ids) (stored_in w.chunks (slot_of w.ids j))) (sym same) ∙ held_there w.ids w.chunks sound s n at))
-
 -- a link to a slot that is taken reaches its chunk
 pub reaches_in : (w v : Slotted) → w ≡ v → AreSound w.ids w.chunks → (s : ℕ) (n : LinkedChunk) → get_or w.chunks s None ≡ Some n → Reaches v (Some (record { chunk_id = (n.chunk).chunk_id; slot = s }))
 reaches_in w v is sound s n at =
     subst (λ (u : Slotted). Reaches u (Some (record { chunk_id = (n.chunk).chunk_id; slot = s }))) is
     (number_of_chunk w.ids w.chunks sound s n at, subst (λ (o : Option Node). IsSome o) (sym (held_there w.ids w.chunks sound s n at)) refl)
+
+-- the link to a number's slot reaches its chunk
+pub reaches_found : (w v : Slotted) → w ≡ v → AreSound w.ids w.chunks → (k s : ℕ) → slot_of w.ids k ≡ Some s → Reaches v (Some (record { chunk_id = k; slot = s }))
+reaches_found w v is sound k s at =
+    let leads = slot_has w.ids k s at in
+    let there = chunk_there w.ids w.chunks sound k s leads in
+    subst (λ (u : Slotted). Reaches u (Some (record { chunk_id = k; slot = s }))) is
+    (leads, subst (λ (o : Option LinkedChunk). IsSome (option_map (node_value w.ids) o)) (sym (ap (stored_in w.chunks) at ∙ there.1)) refl)
 
 -- a number that nothing is held under has no slot
 no_slot : (ids : List (Option ℕ)) (chunks : List (Option LinkedChunk)) → AreSound ids chunks → (k : ℕ) (o : Option ℕ) → slot_of ids k ≡ o

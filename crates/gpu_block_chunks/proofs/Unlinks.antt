@@ -4,14 +4,15 @@ use Rattle.std.specs.Option.{option_map}
 use Rattle.std.proofs.lemmas.Bool.{cases_eq}
 use Rattle.std.proofs.lemmas.List.{append_assoc}
 use Rattle.gpu_block_chunks.specs.declared.chunk.Chunk.{Chunk}
+use Rattle.gpu_block_chunks.specs.declared.chain.Neighbour.{Neighbour}
 use Rattle.gpu_block_chunks.specs.Chain.{Node}
 use Rattle.gpu_values.specs.declared.allocation_type.AllocationType.{AllocationType}
-use Rattle.gpu_values.specs.declared.allocation_type.AllocationType.TheVariants.{Free}
+use Rattle.gpu_values.specs.declared.allocation_type.AllocationType.TheVariants.{Free, Linear, NonLinear}
 use Rattle.gpu_block_chunks.specs.Chain.{used_node, ChangesAt, SetsAt}
 use Rattle.gpu_block_chunks.specs.ChunkList.{Covers, filled_chunk}
 use Rattle.gpu_block_chunks.specs.Chain.{first_or, last_or, node_of, Apart, Distinct, Numbered, Among, LinkedAt, IsChain, CanJoin, JoinsNext, JoinsRight, JoinsLeft, longer, is_free_kind}
-use Rattle.gpu_block_chunks.specs.Chain.{right_chunk, right_rest, glue_left, Name, walk, chunks_in}
-use Rattle.gpu_block_chunks.proofs.Links.{stands_from, same_test, apart_test, apart_front, held_front, held_back, held_join, walk_chain, chain_walk}
+use Rattle.gpu_block_chunks.specs.Chain.{right_chunk, right_rest, glue_left, Name, walk, chunks_in, JoinsUnder, beside, last_beside, first_by, first_of}
+use Rattle.gpu_block_chunks.proofs.Links.{stands_from, same_test, apart_test, numbered_at, apart_front, held_front, held_back, held_join, walk_chain, chain_walk}
 use Rattle.gpu_block_chunks.proofs.Splits.{Same, distinct_back, opt_none, same_from, held_same, among_front, among_back, among_cases}
 
 at_is : (f : ℕ → Option Node) (k first size : ℕ) (front : List (ℕ × Chunk)) (c : Chunk) (back : List (ℕ × Chunk)) → IsChain f first size (front ++ (k, c) ∷ back)
@@ -49,6 +50,22 @@ glue_is : (p k : ℕ) (d c : Chunk) (back xs : List (ℕ × Chunk)) → glue_lef
 glue_is p k d c back [] = refl
 glue_is p k d c back (x ∷ []) = refl
 glue_is p k d c back (x ∷ (y ∷ xs)) = ap (λ (ys : List (ℕ × Chunk)). x ∷ ys) (glue_is p k d c back (y ∷ xs))
+
+-- the number that a chunk and the one before are under, if they become one
+first_is : (kind : AllocationType) (p k : ℕ) → first_by kind p k ≡ cond (is_free_kind kind) p k
+first_is Free p k = refl
+first_is Linear p k = refl
+first_is NonLinear p k = refl
+
+last_is : (o : Option Neighbour) (xs : List (ℕ × Chunk)) (p : ℕ) (d : Chunk) → last_beside o (chunks_in (xs ++ (p, d) ∷ [])) ≡ Some (beside d)
+last_is o [] p d = refl
+last_is o (x ∷ xs) p d = last_is (Some (beside x.1)) xs p d
+
+-- two that became one are held under the number of the first
+pub joined_has : (f g : ℕ → Option Node) (p k : ℕ) → CanJoin f p k → JoinsNext p k f g → IsSome (g p)
+joined_has f g p k can j =
+    subst (λ (o : Option Node). IsSome o)
+    (sym (at_is g p can.first can.size can.front (longer can.chunk (can.next).size) can.back (j can.first can.size can.front can.chunk can.next can.back can.linked))) (search rules)
 
 -- ---- with the next chunk
 module _ (f : ℕ → Option Node) (k : ℕ) (next : Option ℕ) (ends : (n : Node) → f k ≡ Some n → next ≡ n.next) where
@@ -123,6 +140,10 @@ module _ (f : ℕ → Option Node) (k : ℕ) (prev : Option ℕ) (ends : (n : No
       let n = front_nil front (sym (prev_is first size front c back l) ∙ e) in
       subst (λ (xs : List (ℕ × Chunk)). IsChain f first size (glue_left xs k c back)) (sym n) (subst (λ (xs : List (ℕ × Chunk)). IsChain f first size (xs ++ (k, c) ∷ back)) n l)
 
+  pub under_none : prev ≡ None → JoinsUnder k f k
+  under_none e = λ first size front c back l.
+      ap (λ (xs : List (ℕ × Chunk)). first_of (last_beside None (chunks_in xs)) k) (sym (front_nil front (sym (prev_is first size front c back l) ∙ e)))
+
   module _ (p : ℕ) (e : prev ≡ Some p) (b : Bool) (tells : (n : Node) → f p ≡ Some n → b ≡ is_free_kind (n.chunk).kind) where
     left_kind : (first size : ℕ) (ys : List (ℕ × Chunk)) (d c : Chunk) (back : List (ℕ × Chunk)) → IsChain f first size (ys ++ (p, d) ∷ (k, c) ∷ back) → b ≡ is_free_kind d.kind
     left_kind first size ys d c back l = tells (node_of d (last_or None ys) (Some k)) (held_back f None ys ((p, d) ∷ (k, c) ∷ back) None l.held).0
@@ -142,6 +163,21 @@ module _ (f : ℕ → Option Node) (k : ℕ) (prev : Option ℕ) (ends : (n : No
         subst (λ (xs : List (ℕ × Chunk)). IsChain g first size (glue_left xs k c back)) (sym s.2)
         (subst (λ (xs : List (ℕ × Chunk)). IsChain g first size xs) (sym (glue_is p k s.1 c back s.0))
         (subst (λ (v : Bool). IsChain g first size (s.0 ++ cond v ((p, longer s.1 c.size) ∷ back) ((p, s.1) ∷ (k, c) ∷ back))) (sym yes_ ∙ t) (j first size s.0 s.1 c back s.3)))
+
+    under_is : JoinsUnder k f (cond b p k)
+    under_is = λ first size front c back l.
+        let s = seen p first size front c back e l in
+        let t = left_kind first size s.0 s.1 c back s.3 in
+        let n : (s.1).chunk_id ≡ p = numbered_at s.0 p s.1 ((k, c) ∷ back) (s.3).numbered in
+        ap (λ (v : Bool). cond v p k) t ∙ ap (λ (q : ℕ). cond (is_free_kind (s.1).kind) q k) (sym n) ∙ sym (first_is (s.1).kind (s.1).chunk_id k)
+        ∙ ap (λ (o : Option Neighbour). first_of o k) (sym (last_is None s.0 p s.1))
+        ∙ ap (λ (xs : List (ℕ × Chunk)). first_of (last_beside None (chunks_in xs)) k) (sym s.2)
+
+    pub under_used : b ≡ false → JoinsUnder k f k
+    under_used no_ = subst (λ (v : Bool). JoinsUnder k f (cond v p k)) no_ under_is
+
+    pub under_free : b ≡ true → JoinsUnder k f p
+    under_free yes_ = subst (λ (v : Bool). JoinsUnder k f (cond v p k)) yes_ under_is
 
 -- ---- another use
 module _ (f g : ℕ → Option Node) (k offset : ℕ) (kind : AllocationType) (name : Name) (change : ChangesAt k (used_node offset kind name) f g) where
@@ -267,6 +303,10 @@ module _ (f f1 : ℕ → Option Node) (first size : ℕ) (ds : List (ℕ × Chun
           chain_walk f3 first size
               (glue_left o.front k (right_chunk (freed o.chunk empty) o.back) (right_rest o.back)) c,
         )
+
+    pub under_done : (j : ℕ) → JoinsUnder k f2 j → j ≡ first_of (last_beside None (chunks_in o.front)) k
+    under_done j under =
+        under first size o.front (right_chunk (freed o.chunk empty) o.back) (right_rest o.back) (joins first size o.front (freed o.chunk empty) o.back released_first)
 
 -- ---- a fresh block
 pub fresh_chain : (f g : ℕ → Option Node) (size : ℕ) (c : Chunk) → ((q : ℕ) → f q ≡ None) → SetsAt 1 (Some (node_of c None None)) f g → 0 < size → c.start ≡ 0 → c.size ≡ size → c.chunk_id ≡ 1

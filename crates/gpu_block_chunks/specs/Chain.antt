@@ -1,5 +1,5 @@
 -- Chunks that a map holds by number, linked to their neighbours' numbers, and the list that they make.
-use Rattle.std.specs.Prelude.{◌≡◌, ◌≢◌, ℕ, ◌+◌, ◌^◌, ◌<◌, ◌⊎◌, zero, suc, List, [], ◌∷◌, ◌++◌, All, Option, Some, None, is_some, if◌then◌else◌, Bool, true, false, cond, ◌==◌}
+use Rattle.std.specs.Prelude.{◌≡◌, ◌≢◌, ℕ, ◌+◌, ◌^◌, ◌<◌, ◌⊎◌, zero, suc, List, [], ◌∷◌, ◌++◌, All, Option, Some, None, Bool, true, false, cond, ◌==◌}
 use Rattle.std.specs.Borrow.{Bor}
 use Rattle.std.specs.Option.{option_map}
 use Rattle.gpu_values.specs.declared.allocation_type.AllocationType.{AllocationType}
@@ -7,7 +7,7 @@ use Rattle.gpu_values.specs.declared.allocation_type.AllocationType.TheVariants.
 use Rattle.gpu_block_chunks.specs.declared.chunk.Chunk.{Chunk}
 use Rattle.gpu_block_chunks.specs.declared.chain.Neighbour.{Neighbour}
 use Rattle.gpu_block_chunks.specs.declared.chain.Neighbours.{Neighbours}
-use Rattle.gpu_block_chunks.specs.ChunkList.{Covers, cut_chunk, filled_chunk, join_back, join_front}
+use Rattle.gpu_block_chunks.specs.ChunkList.{IsFree, Covers, cut_chunk, filled_chunk, join_back, join_front}
 
 -- the bytes of a name
 abbrev pub Name : Type 0
@@ -46,6 +46,10 @@ abbrev pub first_beside : List Chunk → Option Neighbour
 first_beside [] = None
 first_beside (c ∷ cs) = Some (beside c)
 
+-- no piece has the number: a chunk that has it is free
+abbrev pub HasNoPiece : List Chunk → ℕ → Type 0
+HasNoPiece cs chunk_id = (c : Chunk) → StandsAt cs chunk_id c → IsFree c.kind
+
 -- the chunk of that number, and what stands beside it
 pub record AreNeighbours (cs : List Chunk) (chunk_id : ℕ) (a : Neighbours) : Type 0 where
   pub chunk : Chunk
@@ -53,11 +57,6 @@ pub record AreNeighbours (cs : List Chunk) (chunk_id : ℕ) (a : Neighbours) : T
   pub here : a.here ≡ beside chunk
   pub before : a.before ≡ last_beside None at.front
   pub after : a.after ≡ first_beside at.back
-
--- how many stand beside a chunk
-abbrev pub neighbours : Option Neighbours → ℕ
-neighbours None = 0
-neighbours (Some a) = (if is_some a.before then 1 else 0) + (if is_some a.after then 1 else 0)
 
 -- the chunks from that number on; none without a number
 abbrev pub from_chunk_id : Option ℕ → List Chunk → List Chunk
@@ -107,6 +106,23 @@ pub record IsReleased (old : List Chunk) (k : ℕ) (new : List Chunk) : Type 0 w
   pub chunk : Chunk
   pub at : StandsAt old k chunk
   pub is : new ≡ join_front at.front (join_back (filled_chunk chunk chunk.start Free []) at.back)
+
+-- the number of the free chunk that a chunk becomes part of: that of the free one before it, if there is one
+abbrev pub first_by : AllocationType → ℕ → ℕ → ℕ
+first_by Free before chunk_id = before
+first_by Linear before chunk_id = chunk_id
+first_by NonLinear before chunk_id = chunk_id
+
+abbrev pub first_of : Option Neighbour → ℕ → ℕ
+first_of None chunk_id = chunk_id
+first_of (Some b) chunk_id = first_by b.kind b.chunk_id chunk_id
+
+-- the piece of number k was freed: `was` stood beside it, and `is` stands beside the chunk that it became part of
+pub record ReleasesPiece (old : List Chunk) (k : ℕ) (new : List Chunk) (was is : Neighbours) : Type 0 where
+  pub before : AreNeighbours old k was
+  pub live : IsFree (was.here).kind → ⊥
+  pub released : IsReleased old k new
+  pub after : AreNeighbours new (first_of was.before k) is
 
 -- ---- how the map holds the list: each chunk beside the number that it is held under
 
@@ -249,6 +265,12 @@ JoinsLeft k f g =
     (first size : ℕ) (front : List (ℕ × Chunk)) (c : Chunk) (back : List (ℕ × Chunk))
     → IsChain f first size (front ++ (k, c) ∷ back) → IsChain g first size (glue_left front k c back)
 
+-- whatever list the chunks made, the number of the chunk that they make with the one before
+abbrev pub JoinsUnder : ℕ → (ℕ → Option Node) → ℕ → Type 0
+JoinsUnder k f joined =
+    (first size : ℕ) (front : List (ℕ × Chunk)) (c : Chunk) (back : List (ℕ × Chunk))
+    → IsChain f first size (front ++ (k, c) ∷ back) → joined ≡ first_of (last_beside None (chunks_in front)) k
+
 -- ---- what a step changes of the map
 
 abbrev pub with_next : Option ℕ → Node → Node
@@ -265,6 +287,10 @@ ChangesAt k change f g = (q : ℕ) → g q ≡ cond (k == q) (option_map change 
 abbrev pub beside_of : (ℕ → Option Node) → Option ℕ → Option Neighbour
 beside_of f None = None
 beside_of f (Some k) = option_map (λ n. beside n.chunk) (f k)
+
+-- the same of a chunk and of what stands beside it
+abbrev pub around_of : (ℕ → Option Node) → Node → Neighbours
+around_of f n = record { here = beside n.chunk; before = beside_of f n.prev; after = beside_of f n.next }
 
 abbrev pub cut_node : ℕ → Option ℕ → Node → Node
 cut_node taken prev n = record { chunk = cut_chunk n.chunk taken; prev = prev; next = n.next }

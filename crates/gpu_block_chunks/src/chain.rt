@@ -5,7 +5,7 @@ ghost use Rattle.std.specs.Option.{option_copied, option_map};
 ghost use Rattle.gpu_cost.specs.Cost.{LooksUp, LooksUpBetween};
 ghost use Rattle.gpu_block_chunks.specs.Nodes.{held_at, node_value, link_chunk_id, IsTaken, Reaches};
 ghost use Rattle.gpu_block_chunks.specs.ChunkList.{Covers, AreDistinct};
-ghost use Rattle.gpu_block_chunks.specs.Chain.{HasChunkId, HasNoChunkId, AreNeighbours, neighbours, IsSplit, IsFilled, IsReleased, from_chunk_id, beside, beside_of, first_after, IsChunkAt, IsFresh, IsLonger};
+ghost use Rattle.gpu_block_chunks.specs.Chain.{HasChunkId, HasNoChunkId, HasNoPiece, ReleasesPiece, IsSplit, IsFilled, from_chunk_id, beside, beside_of, around_of, first_after, IsChunkAt, IsFresh, IsLonger};
 
 mod chunk_ids;
 mod link;
@@ -13,12 +13,12 @@ mod node;
 mod nodes;
 mod slots;
 
-use crate::chunk::Chunk;
+use crate::chunk::{Chunk, is_free};
 use crate::name::Name;
 use gpu_cost::Cost;
 use gpu_values::AllocationType;
 use link::{Link, LinkedChunk, chunk_id_of};
-use node::{cut_front, ends_of, join_left, join_right, linked_at, set_next_of, set_use};
+use node::{cut_front, ends_of, join_left, join_right, link_at, linked_at, set_next_of, set_use};
 use nodes::Nodes;
 use std::alloc::{AllocError, Global};
 use std::marker::Model;
@@ -32,15 +32,12 @@ pub struct Neighbour {
     pub chunk_id: u64,
 }
 
-/// A chunk, and what stands before and behind it. The chunk and the one before it are looked for in these slots first: contracts say nothing of
-/// them.
+/// A chunk, and what stands before and behind it.
 #[derive(Clone, Copy)]
 pub struct Neighbours {
     pub here: Neighbour,
     pub before: Option<Neighbour>,
     pub after: Option<Neighbour>,
-    pub slot: u32,
-    pub slot_before: u32,
 }
 
 /// The chunks of a block, from its start to its end. They cover it without overlap, and no two have one number.
@@ -68,26 +65,7 @@ impl Model for Chain {
         (walk s.size (held_at s.nodes) (Some s.first)) };
 }
 
-/// The one way to read a chunk by its number, which is looked for in that slot first.
-#[inline(always)]
-fn node_near<'a>(
-    nodes: &'a Nodes,
-    chunk_id: u64,
-    near: u32,
-    cost: &mut Cost,
-) -> Option<&'a LinkedChunk>
-    ensures value { option_map (node_value nodes.now.ids) (option_copied result)
-        ≡ held_at nodes.now chunk_id }
-    ensures links { IfSome result (λ n. IsTaken nodes.now.ids n.now.prev
-        × IsTaken nodes.now.ids n.now.next) }
-    ensures counted { LooksUp 1 cost.old cost.new }
-{
-    cost.look_up();
-    nodes.get_near(chunk_id, near)
-}
-
-/// The same, with no slot to begin at.
-#[inline(always)]
+/// The one way to read a chunk by its number.
 fn node_at<'a>(nodes: &'a Nodes, chunk_id: u64, cost: &mut Cost) -> Option<&'a LinkedChunk>
     ensures value { option_map (node_value nodes.now.ids) (option_copied result)
         ≡ held_at nodes.now chunk_id }
@@ -95,7 +73,8 @@ fn node_at<'a>(nodes: &'a Nodes, chunk_id: u64, cost: &mut Cost) -> Option<&'a L
         × IsTaken nodes.now.ids n.now.next) }
     ensures counted { LooksUp 1 cost.old cost.new }
 {
-    node_near(nodes, chunk_id, nodes.slot_near(chunk_id), cost)
+    cost.look_up();
+    nodes.get(chunk_id)
 }
 
 fn short(chunk: &Chunk) -> Neighbour
@@ -117,6 +96,23 @@ fn beside_at(nodes: &Nodes, link: Option<Link>, cost: &mut Cost) -> Option<Neigh
 {
     let link = link?;
     Some(short(&linked_at(nodes, link, cost).chunk))
+}
+
+/// The chunk that a link leads to, and what stands beside it.
+fn around_at(nodes: &Nodes, at: Link, cost: &mut Cost) -> Neighbours
+    requires { Reaches nodes.now (Some at) }
+    ensures value { option_map (around_of (held_at nodes.now)) (held_at nodes.now at.chunk_id)
+        ≡ Some result }
+    ensures counted { LooksUpBetween 1 3 cost.old cost.new }
+{
+    let node = linked_at(nodes, at, cost);
+    let before = beside_at(nodes, nodes.link_in(node.prev), cost);
+    let after = beside_at(nodes, nodes.link_in(node.next), cost);
+    Neighbours {
+        here: short(&node.chunk),
+        before,
+        after,
+    }
 }
 
 /// The number of the first chunk, after one was put behind `prev`.
@@ -185,37 +181,6 @@ impl Chain {
         let _size = self.size;
         let node = node_at(&self.nodes, chunk_id, cost)?;
         Some((&node.chunk, chunk_id_of(self.nodes.link_in(node.next))))
-    }
-
-    /// The chunk of that number, and what stands beside it.
-    #[inline(always)]
-    pub fn around(&self, chunk_id: u64, cost: &mut Cost) -> Option<Neighbours>
-        ensures value { MatchOption result (HasNoChunkId self.now.chunks chunk_id)
-            (λ a. AreNeighbours self.now.chunks chunk_id a) }
-        ensures counted { LooksUp (1 + neighbours result) cost.old cost.new }
-    {
-        self.around_near(chunk_id, self.nodes.slot_near(chunk_id), cost)
-    }
-
-    /// The same, where the chunk is looked for in that slot first.
-    #[inline(always)]
-    pub fn around_near(&self, chunk_id: u64, near: u32, cost: &mut Cost) -> Option<Neighbours>
-        ensures value { MatchOption result (HasNoChunkId self.now.chunks chunk_id)
-            (λ a. AreNeighbours self.now.chunks chunk_id a) }
-        ensures counted { LooksUp (1 + neighbours result) cost.old cost.new }
-    {
-        // a read, so that the proof has the invariant
-        let _size = self.size;
-        let node = node_near(&self.nodes, chunk_id, near, cost)?;
-        let before = beside_at(&self.nodes, self.nodes.link_in(node.prev), cost);
-        let after = beside_at(&self.nodes, self.nodes.link_in(node.next), cost);
-        Some(Neighbours {
-            here: short(&node.chunk),
-            before,
-            after,
-            slot: near,
-            slot_before: node.prev.unwrap_or(0),
-        })
     }
 
     /// Makes room for that many more chunks, where there isn't room enough. A refusal changes no chunk.
@@ -292,26 +257,38 @@ impl Chain {
         let _size = self.size;
     }
 
-    /// Frees a chunk, which is looked for in that slot first, and joins it with the free chunks beside it. It takes no memory.
-    pub fn release(&mut self, chunk_id: u64, near: u32, cost: &mut Cost)
-        requires there { HasChunkId self.old.chunks chunk_id }
-        ensures chunks { IsReleased self.old.chunks chunk_id self.new.chunks }
+    /// Frees the piece of that number, and joins it with the free chunks beside it: what stood beside it, and what stands beside the chunk
+    /// that it became part of. Where the number is no piece's nothing changes. It takes no memory.
+    #[inline(always)]
+    pub fn release_piece(
+        &mut self,
+        chunk_id: u64,
+        cost: &mut Cost,
+    ) -> Option<(Neighbours, Neighbours)>
+        ensures released { MatchOption result
+            (HasNoPiece self.old.chunks chunk_id × (self.new ≡ self.old))
+            (λ r. ReleasesPiece self.old.chunks chunk_id self.new.chunks r.0 r.1) }
         ensures size { self.new.size ≡ self.old.size }
-        ensures counted { LooksUpBetween 4 12 cost.old cost.new }
+        ensures counted { MatchOption result (LooksUpBetween 1 4 cost.old cost.new)
+            (λ r. LooksUpBetween 6 18 cost.old cost.new) }
     {
         // a read, so that the proof has the invariant
         let _size = self.size;
-        let at = self.nodes.link_near(chunk_id, near);
-        let start = ends_of(&self.nodes, at, cost).start;
+        let at = link_at(&self.nodes, chunk_id, cost)?;
+        let was = around_at(&self.nodes, at, cost);
+        if is_free(was.here.kind) {
+            return None;
+        }
         set_use(
             &mut self.nodes,
             at,
-            start,
+            was.here.start,
             AllocationType::Free,
             Name::empty(),
             cost,
         );
         join_right(&mut self.nodes, at, cost);
-        join_left(&mut self.nodes, at, cost);
+        let joined = join_left(&mut self.nodes, at, cost);
+        Some((was, around_at(&self.nodes, joined, cost)))
     }
 }

@@ -14,8 +14,7 @@ pub struct Link {
     pub slot: u32,
 }
 
-/// A chunk, and the slots of the ones beside it. What is read of a neighbour stands together at the front of the chunk, mostly in one line
-/// of a cache.
+/// A chunk, and the slots of the ones beside it. What is read of a neighbour stands together, before the name.
 #[derive(Drop)]
 pub struct LinkedChunk {
     pub prev: Option<u32>,

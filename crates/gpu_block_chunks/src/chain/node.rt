@@ -1,9 +1,9 @@
 //! The steps that change the chunks of a chain. Each goes straight to the slots of the chunks that it reads and writes.
 
-ghost use Rattle.std.specs.Prelude.{◌≡◌, ◌+◌, ◌-◌, ◌^◌, ◌<◌, ◌≤◌, is_some, if◌then◌else◌, IsSome, IsSomeAnd, IfSome, Some};
+ghost use Rattle.std.specs.Prelude.{◌≡◌, ◌+◌, ◌-◌, ◌^◌, ◌<◌, ◌≤◌, is_some, if◌then◌else◌, IsSome, IsSomeAnd, IfSome, MatchOption, Some, None};
 ghost use Rattle.gpu_cost.specs.Cost.{LooksUp, LooksUpBetween};
 ghost use Rattle.gpu_block_chunks.specs.Nodes.{held_at, room_of, node_value, link_chunk_id, number_at, IsTaken, Leads, Reaches, KeepsOthers};
-ghost use Rattle.gpu_block_chunks.specs.Chain.{Node, CanJoin, JoinsNext, JoinsRight, JoinsLeft, LinkedAt, is_free_kind};
+ghost use Rattle.gpu_block_chunks.specs.Chain.{Node, CanJoin, JoinsNext, JoinsRight, JoinsLeft, JoinsUnder, LinkedAt, is_free_kind};
 ghost use Rattle.gpu_block_chunks.specs.Chain.{ChangesAt, ChangesAtOpt, with_next, with_prev, cut_node, joined_node, used_node};
 
 use super::link::{Link, LinkedChunk, slot_of};
@@ -11,6 +11,16 @@ use super::nodes::Nodes;
 use crate::name::Name;
 use gpu_cost::Cost;
 use gpu_values::AllocationType;
+
+/// The one way to find a chunk that is to be changed, by a number that maybe none has.
+pub fn link_at(nodes: &Nodes, chunk_id: u64, cost: &mut Cost) -> Option<Link>
+    ensures found { MatchOption result (held_at nodes.now chunk_id ≡ None)
+        (λ link. (link.chunk_id ≡ chunk_id) × Reaches nodes.now (Some link)) }
+    ensures counted { LooksUp 1 cost.old cost.new }
+{
+    cost.look_up();
+    nodes.find_link(chunk_id)
+}
 
 /// The one way to read a chunk that a link leads to.
 pub fn linked_at<'a>(nodes: &'a Nodes, at: Link, cost: &mut Cost) -> &'a LinkedChunk
@@ -235,11 +245,13 @@ pub fn join_right(nodes: &mut Nodes, at: Link, cost: &mut Cost)
     }
 }
 
-/// Joins a chunk with the one before it, if that is free.
-pub fn join_left(nodes: &mut Nodes, at: Link, cost: &mut Cost)
+/// Joins a chunk with the one before it, if that is free: where the joined chunk is found.
+pub fn join_left(nodes: &mut Nodes, at: Link, cost: &mut Cost) -> Link
     requires linked { LinkedAt (held_at nodes.old) at.chunk_id }
     requires leads { Leads nodes.old (Some at) }
     ensures joins { JoinsLeft at.chunk_id (held_at nodes.old) (held_at nodes.new) }
+    ensures chunk_id { JoinsUnder at.chunk_id (held_at nodes.old) result.chunk_id }
+    ensures reaches { Reaches nodes.new (Some result) }
     ensures room { room_of nodes.old ≤ room_of nodes.new }
     ensures counted { LooksUpBetween 1 5 cost.old cost.new }
 {
@@ -247,6 +259,8 @@ pub fn join_left(nodes: &mut Nodes, at: Link, cost: &mut Cost)
     if let Some(left) = nodes.link_in(ends.prev) {
         if is_free_at(nodes, left, cost) {
             join_next(nodes, left, at, cost);
+            return left;
         }
     }
+    at
 }

@@ -1,6 +1,6 @@
 //! The chunks of a chain in slots, which are found by number.
 
-ghost use Rattle.std.specs.Prelude.{◌≡◌, ℕ, ◌+◌, ◌≤◌, ◌<◌, IsSome, IfOk, OnOk, IfSome, Some, None};
+ghost use Rattle.std.specs.Prelude.{◌≡◌, ℕ, ◌+◌, ◌≤◌, ◌<◌, IsSome, IfOk, OnOk, IfSome, MatchOption, Some, None};
 ghost use Rattle.std.specs.Option.{option_copied, option_map};
 ghost use Rattle.gpu_block_chunks.specs.Chain.{SetsAt, IsUnlinked};
 ghost use Rattle.gpu_block_chunks.specs.Nodes.{held_at, room_of, node_value, link_chunk_id, link_slot, number_at, IsTaken, Leads, Reaches, KeepsOthers, KeepsReached, IsAlone};
@@ -58,46 +58,15 @@ impl Nodes {
         self.chunks.get(slot as usize)
     }
 
-    /// The slot of a number, or 0: where to look for it first.
+    /// Where the chunk of a number is found, if there is one.
     #[inline(always)]
-    pub fn slot_near(&self, chunk_id: u64) -> u32 {
+    pub fn find_link(&self, chunk_id: u64) -> Option<Link>
+        ensures { MatchOption result (held_at self.now chunk_id ≡ None)
+            (λ link. (link.chunk_id ≡ chunk_id) × Reaches self.now (Some link)) }
+    {
         match self.ids.find(chunk_id) {
-            Some(slot) => slot,
-            None => 0,
-        }
-    }
-
-    /// The chunk of a number, which is looked for in that slot first.
-    #[inline(always)]
-    pub fn get_near(&self, chunk_id: u64, near: u32) -> Option<&LinkedChunk>
-        ensures value { option_map (node_value self.now.ids) (option_copied result)
-            ≡ held_at self.now chunk_id }
-        ensures links { IfSome result (λ n. IsTaken self.now.ids n.now.prev
-            × IsTaken self.now.ids n.now.next) }
-    {
-        // a read, so that the proof has the invariant
-        let _ids = &self.ids;
-        match self.chunks.get(near as usize) {
-            Some(linked) if linked.chunk.chunk_id == chunk_id => Some(linked),
-            _ => self.get(chunk_id),
-        }
-    }
-
-    /// Where the chunk of a number is found, which is looked for in that slot first.
-    #[inline(always)]
-    pub fn link_near(&self, chunk_id: u64, near: u32) -> Link
-        requires { IsSome (held_at self.now chunk_id) }
-        ensures chunk_id { result.chunk_id ≡ chunk_id }
-        ensures leads { Leads self.now (Some result) }
-    {
-        // a read, so that the proof has the invariant
-        let _ids = &self.ids;
-        match self.chunks.get(near as usize) {
-            Some(linked) if linked.chunk.chunk_id == chunk_id => Link {
-                chunk_id,
-                slot: near,
-            },
-            _ => self.link_to(chunk_id),
+            Some(slot) => Some(Link { chunk_id, slot }),
+            None => None,
         }
     }
 

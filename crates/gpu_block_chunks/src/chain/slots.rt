@@ -21,7 +21,7 @@ enum Slot {
     Free(Option<usize>),
 }
 
-// A multiple of 32 bytes, so that those that are read of a neighbour lie in one line of a cache.
+// All but the name lies in the first 64 of its bytes.
 const _: () = prove!(size_of::<Slot>() == 96);
 
 impl Slot {
