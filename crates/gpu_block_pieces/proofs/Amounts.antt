@@ -2,11 +2,8 @@
 use Rattle.std.proofs.Common.{◌≡◌, ◌≢◌, ℕ, ◌+◌, ◌-◌, ◌≤◌, List, [], ◌∷◌, ◌++◌, refl, sym, ap, ◌∙◌, subst, inl, inr, arith}
 use Rattle.std.proofs.lemmas.List.Sums.{sum_by-append, sum_by-cons}
 use Rattle.gpu_block_chunks.specs.declared.chunk.Chunk.{Chunk}
-use Rattle.gpu_block_chunks.specs.declared.chain.Neighbour.{Neighbour}
-use Rattle.gpu_block_chunks.specs.declared.chain.Neighbours.{Neighbours}
 use Rattle.gpu_values.specs.declared.allocation_type.AllocationType.{AllocationType}
 use Rattle.gpu_values.specs.declared.allocation_type.AllocationType.TheVariants.{Free, Linear, NonLinear}
-use Rattle.gpu_block_chunks.specs.Chain.{IsReleased}
 use Rattle.gpu_block_chunks.specs.ChunkList.{IsFree, Covers, AreDistinct, cut_chunk, filled_chunk, join_back, join_front}
 use Rattle.gpu_block_chunks.proofs.Listing.{stands_once}
 use Rattle.gpu_block_pieces.specs.FreeList.{Extent, extent_bytes}
@@ -15,7 +12,7 @@ use Rattle.std.proofs.lemmas.Bool.{cases_lt}
 use Rattle.gpu_block_pieces.specs.declared.place.Wanted.{Wanted}
 use Rattle.gpu_block_pieces.specs.declared.search.Found.{Found}
 use Rattle.gpu_block_pieces.specs.Chunks.{HoldsChunkId, IsNamedAt, IsTaken, extent, extents_of, named_chunk, piece_of}
-use Rattle.gpu_block_pieces.specs.Indexed.{IsPieceAt, IsChosen, chosen_at}
+use Rattle.gpu_block_pieces.specs.Indexed.{IsFreed, IsChosen, chosen_at}
 use Rattle.gpu_block_pieces.proofs.Tiling.{around}
 use Rattle.gpu_block_pieces.proofs.Edits.{join_kinds-free, join_kinds-live}
 use Rattle.gpu_block_pieces.proofs.Views.{free_or_live, extents-free, extents-live, extents-append}
@@ -97,15 +94,15 @@ bytes-front (a ∷ b ∷ front) c back f =
     let three = bytes-cons a (b ∷ front) in
     omega arith
 
-pub released_bytes : (cs ds : List Chunk) (a : Neighbours) → AreDistinct cs → IsPieceAt cs a → IsReleased cs a.here.chunk_id ds → bytes_of cs ≡ a.here.size + bytes_of ds
-released_bytes cs ds a w p r =
-    let at = p.around.at in
-    let chunk = p.around.chunk in
-    let s = stands_once cs at.front at.back chunk r.chunk a.here.chunk_id w r.at at.split at.numbered in
+pub released_bytes : (cs ds : List Chunk) (n bytes : ℕ) → AreDistinct cs → IsFreed cs n bytes ds → bytes_of cs ≡ bytes + bytes_of ds
+released_bytes cs ds n bytes w p =
+    let at = p.at in
+    let r = p.released in
+    let s = stands_once cs at.front at.back p.chunk r.chunk n w r.at at.split at.numbered in
     let gap = filled_chunk r.chunk r.chunk.start Free [] in
     let j = joined gap r.at.back tt in
-    let live : IsFree r.chunk.kind → ⊥ = λ f. p.live (subst (λ (b : Neighbour). IsFree b.kind) (sym p.around.here) (subst (λ (x : Chunk). IsFree x.kind) (sym s.chunks) f)) in
-    let size : a.here.size ≡ r.chunk.size = ap (λ (b : Neighbour). b.size) p.around.here ∙ ap (λ (x : Chunk). x.size) s.chunks in
+    let live : IsFree r.chunk.kind → ⊥ = λ f. p.live (subst (λ (x : Chunk). IsFree x.kind) (sym s.chunks) f) in
+    let size : bytes ≡ r.chunk.size = p.bytes_is ∙ ap (λ (x : Chunk). x.size) s.chunks in
     let old = bytes-mid cs r.at.front r.at.back r.chunk r.at.split live in
     let new : bytes_of ds ≡ bytes_of r.at.front + bytes_of (j.gap ∷ j.rest) = ap bytes_of (r.is ∙ ap (λ xs. join_front r.at.front xs) j.is) ∙ bytes-front r.at.front j.gap j.rest j.free in
     let same = j.bytes in

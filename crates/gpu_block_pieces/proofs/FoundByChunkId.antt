@@ -7,8 +7,6 @@ use Rattle.std.proofs.lemmas.Bool.{false≢true}
 use Rattle.std.proofs.lemmas.List.Folds.{list_any-append}
 use Rattle.std.proofs.lemmas.List.Elements.{All-head, All-tail, All-weaker}
 use Rattle.gpu_block_chunks.specs.declared.chunk.Chunk.{Chunk}
-use Rattle.gpu_block_chunks.specs.declared.chain.Neighbours.{Neighbours}
-use Rattle.gpu_block_chunks.specs.declared.chain.Neighbour.{Neighbour}
 use Rattle.gpu_block_gaps.specs.declared.index.Gap.{Gap}
 use Rattle.gpu_block_pieces.specs.declared.place.Wanted.{Wanted}
 use Rattle.gpu_block_pieces.specs.declared.search.Found.{Found}
@@ -16,8 +14,8 @@ use Rattle.gpu_values.specs.declared.allocation_type.AllocationType.{AllocationT
 use Rattle.gpu_values.specs.declared.allocation_type.AllocationType.TheVariants.{Free, Linear, NonLinear}
 use Rattle.gpu_block_chunks.specs.ChunkList.{IsFree, Covers, AreDistinct, join_front, join_back, filled_chunk, cut_chunk}
 use Rattle.gpu_block_pieces.specs.Chunks.{NoneTouch, HoldsChunkId, IsNamedAt, IsReleasedAt, IsTaken, AreChunks, IsChunk, is_gap_by, extents_of, extent, named_chunk}
-use Rattle.gpu_block_chunks.specs.Chain.{Name, StandsAt, HasNoChunkId, IsSplit, IsFilled, IsReleased, AreNeighbours, front_piece}
-use Rattle.gpu_block_pieces.specs.Indexed.{IsListed, IsGapOf, IsChosen, chosen_at, IsPieceAt, IsPieceOf, gaps_between}
+use Rattle.gpu_block_chunks.specs.Chain.{Name, StandsAt, HasNoChunkId, IsSplit, IsFilled, HasNoPiece, front_piece}
+use Rattle.gpu_block_pieces.specs.Indexed.{IsListed, IsGapOf, IsChosen, chosen_at, IsFreed, IsPieceOf, gaps_between}
 use Rattle.gpu_block_pieces.proofs.Numbers.{one_at}
 use Rattle.gpu_block_pieces.proofs.Placing.{not_rest}
 use Rattle.gpu_block_pieces.proofs.Lists.{same_parts}
@@ -36,8 +34,8 @@ not_held cs c k w at f i h =
     let s = stands_once cs h.front h.back h.chunk c k w at h.split h.numbered in
     h.live (subst (λ (x : Chunk). IsFree x.kind) (sym s.chunks) f)
 
-pub around_not_held : (cs : List Chunk) (a : Neighbours) (k : ℕ) → AreDistinct cs → AreNeighbours cs k a → IsFree a.here.kind → (i : ℕ) → HoldsChunkId cs k i → ⊥
-around_not_held cs a k w m f = not_held cs m.chunk k w m.at (subst (λ (b : Neighbour). IsFree b.kind) m.here f)
+pub none_held : (cs : List Chunk) (k : ℕ) → HasNoPiece cs k → (i : ℕ) → HoldsChunkId cs k i → ⊥
+none_held cs k none i h = h.live (none h.chunk (record { front = h.front; back = h.back; split = h.split; numbered = h.numbered }))
 
 none_gap : (k : AllocationType) (n : ℕ) (c : Chunk) → c.chunk_id ≢ n → is_gap_by k n c ≡ false
 none_gap Free n c ne = apart_test c.chunk_id n ne
@@ -77,16 +75,6 @@ gap_of_chunk cs c n b w at told =
     ∙ sym (ap (λ (xs : List Chunk). list_any (λ x. is_gap_by x.kind n x) xs) at.split ∙ (list_any-append (λ x. is_gap_by x.kind n x) at.front (c ∷ at.back)
     ∙ (ap (λ (q : Bool). q || (is_gap_by c.kind n c || list_any (λ x. is_gap_by x.kind n x) at.back)) f
     ∙ (ap (λ (q : Bool). is_gap_by c.kind n c || q) l ∙ or_false (is_gap_by c.kind n c)))))
-
--- a live piece counts
-pub piece_counted : (cs : List Chunk) (a : Neighbours) → IsPieceAt cs a → 1 ≤ length (extents_of cs)
-piece_counted cs a p =
-    let at = p.around.at in
-    let live : IsFree p.around.chunk.kind → ⊥ = λ f. p.live (subst (λ (b : Neighbour). IsFree b.kind) (sym p.around.here) f) in
-    let x = ap (λ (xs : List Chunk). length (extents_of xs)) at.split in
-    let y = ap length (extents-split at.front at.back p.around.chunk live) in
-    let z = length-append (extents_of at.front) (extent p.around.chunk ∷ extents_of at.back) in
-    omega arith
 
 -- ---- another name
 
@@ -200,24 +188,17 @@ pub record ReleasedThere (cs ds : List Chunk) (n : ℕ) : Type 0 where
   pub held : HoldsChunkId cs n index
   pub released : IsReleasedAt cs index ds
 
-pub released_there : (cs ds : List Chunk) (a : Neighbours) (n : ℕ) → AreDistinct cs → a.here.chunk_id ≡ n → IsPieceAt cs a → IsReleased cs a.here.chunk_id ds → ReleasedThere cs ds n
-released_there cs ds a n w e p r =
-    let at = p.around.at in
-    let chunk = p.around.chunk in
+pub released_there : (cs ds : List Chunk) (n bytes : ℕ) → AreDistinct cs → IsFreed cs n bytes ds → ReleasedThere cs ds n
+released_there cs ds n bytes w p =
+    let at = p.at in
+    let chunk = p.chunk in
+    let r = p.released in
     record {
       index = length at.front;
-      held = record {
-        front = at.front;
-        chunk = chunk;
-        back = at.back;
-        split = at.split;
-        index = refl;
-        live = λ f. p.live (subst (λ (b : Neighbour). IsFree b.kind) (sym p.around.here) f);
-        numbered = at.numbered ∙ e;
-      };
+      held = record { front = at.front; chunk = chunk; back = at.back; split = at.split; index = refl; live = p.live; numbered = at.numbered };
       released = λ front c back q len.
           let m = same_parts cs front back at.front at.back c chunk q at.split len in
-          let s = stands_once cs front back c r.chunk a.here.chunk_id w r.at q (ap (λ (x : Chunk). x.chunk_id) m.middle ∙ at.numbered) in
+          let s = stands_once cs front back c r.chunk n w r.at q (ap (λ (x : Chunk). x.chunk_id) m.middle ∙ at.numbered) in
           r.is ∙ (ap (λ (xs : List Chunk). join_front xs (join_back (filled_chunk r.chunk r.chunk.start Free []) r.at.back)) (sym s.fronts)
           ∙ (ap (λ (x : Chunk). join_front front (join_back (filled_chunk x x.start Free []) r.at.back)) (sym s.chunks)
           ∙ ap (λ (xs : List Chunk). join_front front (join_back (filled_chunk c c.start Free []) xs)) (sym s.backs)));

@@ -11,9 +11,9 @@ use Rattle.gpu_values.specs.declared.allocation_type.AllocationType.{AllocationT
 use Rattle.gpu_values.specs.declared.allocation_type.AllocationType.TheVariants.{Free, Linear, NonLinear}
 use Rattle.gpu_block_chunks.specs.ChunkList.{IsFree, Covers, AreDistinct, filled_chunk, joined_chunk, join_back, join_front}
 use Rattle.gpu_block_pieces.specs.Chunks.{NotBothFree, NoneTouch, last_kind, extents_of, extent}
-use Rattle.gpu_block_chunks.specs.Chain.{HasChunkId, IsReleased, beside, last_beside, first_beside}
+use Rattle.gpu_block_chunks.specs.Chain.{AreNeighbours, ReleasesPiece, beside, last_beside, first_beside, first_by, first_of}
 use Rattle.gpu_block_gaps.specs.Index.{Before, HasKeyAt, HasNoKey, IsRemoved, IsInserted}
-use Rattle.gpu_block_pieces.specs.Indexed.{gap_between, kind_or, gap_first, gaps_between, HasSame, IsListed, IsPieceAt, Forgets, ForgetsBy, IsGapBeside, MayForget, MayForgetBy, first_of, first_by}
+use Rattle.gpu_block_pieces.specs.Indexed.{gap_between, kind_or, gap_first, gaps_between, HasSame, IsListed, beside_kind, Forgets, ForgetsBy, IsGapBeside, MayForget, MayForgetBy}
 use Rattle.gpu_block_pieces.proofs.Tiling.{around, last_kind-push}
 use Rattle.gpu_block_pieces.proofs.Views.{free_or_live, extents-free, extents-append, extents-split, contains_mid}
 use Rattle.gpu_block_pieces.proofs.Edits.{snoc, join_front-push, join_kinds-free, join_kinds-live}
@@ -238,26 +238,48 @@ right_side k (r ∷ bs) touch = elim (free_or_live r.kind) [
   }
 ]
 
+-- ---- what stands beside a chunk
+
+last_beside_kind : (o : Option Neighbour) (xs : List Chunk) → beside_kind (last_beside o xs) ≡ last_kind (beside_kind o) xs
+last_beside_kind o [] = refl
+last_beside_kind o (x ∷ xs) = last_beside_kind (Some (beside x)) xs
+
+first_beside_kind : (xs : List Chunk) → beside_kind (first_beside xs) ≡ kind_or xs Free
+first_beside_kind [] = refl
+first_beside_kind (x ∷ xs) = refl
+
+pub gap_here : (cs front back : List Chunk) (c : Chunk) (k : ℕ) (a : Neighbours) (before after : AllocationType) → AreDistinct cs → AreNeighbours cs k a → before ≡ beside_kind a.before → after ≡ beside_kind
+    a.after → cs ≡ front ++ c ∷ back → c.chunk_id ≡ k
+    → record { length = a.here.size; start = a.here.start; chunk_id = a.here.chunk_id; before = before; after = after } ≡ gap_between (last_kind Free front) c (kind_or back Free)
+gap_here cs front back c k a before after w m eb ea p n =
+    let s = stands_once cs front back c m.chunk k w m.at p n in
+    let b : before ≡ last_kind Free front = eb ∙ ap beside_kind m.before ∙ last_beside_kind None m.at.front ∙ ap (last_kind Free) (sym s.fronts) in
+    let f : after ≡ kind_or back Free = ea ∙ ap beside_kind m.after ∙ first_beside_kind m.at.back ∙ ap (λ (xs : List Chunk). kind_or xs Free) (sym s.backs) in
+    ap (λ (h : Neighbour). record { length = h.size; start = h.start; chunk_id = h.chunk_id; before = before; after = after }) m.here
+    ∙ ap (λ (x : AllocationType). gap_between x m.chunk after) b
+    ∙ ap (λ (x : AllocationType). gap_between (last_kind Free front) m.chunk x) f
+    ∙ ap (λ (x : Chunk). gap_between (last_kind Free front) x (kind_or back Free)) (sym s.chunks)
+
 -- ---- the whole release
 
-module _ (cs ds : List Chunk) (gs : List Gap) (a : Neighbours) (listed : IsListed cs gs) (piece : IsPieceAt cs a) (distinct : AreDistinct cs) (released : IsReleased cs a.here.chunk_id ds) where
+module _ (cs ds : List Chunk) (gs : List Gap) (k : ℕ) (a b : Neighbours) (listed : IsListed cs gs) (piece : ReleasesPiece cs k ds a b) (distinct : AreDistinct cs) where
   abbrev pub front : List Chunk
-  front = piece.around.at.front
+  front = piece.before.at.front
 
   abbrev pub chunk : Chunk
-  chunk = piece.around.chunk
+  chunk = piece.before.chunk
 
   abbrev pub back : List Chunk
-  back = piece.around.at.back
+  back = piece.before.at.back
 
   abbrev pub freed : Chunk
   freed = filled_chunk chunk chunk.start Free []
 
   live : IsFree chunk.kind → ⊥
-  live f = piece.live (subst (λ (b : Neighbour). IsFree b.kind) (sym piece.around.here) f)
+  live f = piece.live (subst (λ (b : Neighbour). IsFree b.kind) (sym piece.before.here) f)
 
   pub touch_at : Touching Linear front chunk back
-  touch_at = touching Linear front chunk back (subst (λ (xs : List Chunk). NoneTouch Linear xs) piece.around.at.split listed.touch)
+  touch_at = touching Linear front chunk back (subst (λ (xs : List Chunk). NoneTouch Linear xs) piece.before.at.split listed.touch)
 
   abbrev pub left : LeftSide front chunk.kind
   left = left_side chunk.kind front touch_at.before
@@ -270,9 +292,9 @@ module _ (cs ds : List Chunk) (gs : List Gap) (a : Neighbours) (listed : IsListe
 
   released_is : ds ≡ join_front front (join_back freed back)
   released_is =
-      let s = stands_once cs front back chunk released.chunk a.here.chunk_id distinct released.at piece.around.at.split piece.around.at.numbered in
-      released.is ∙ (ap (λ (xs : List Chunk). join_front xs (join_back (filled_chunk released.chunk released.chunk.start Free []) released.at.back)) (sym s.fronts)
-      ∙ (ap (λ (x : Chunk). join_front front (join_back (filled_chunk x x.start Free []) released.at.back)) (sym s.chunks)
+      let s = stands_once cs front back chunk piece.released.chunk k distinct piece.released.at piece.before.at.split piece.before.at.numbered in
+      piece.released.is ∙ (ap (λ (xs : List Chunk). join_front xs (join_back (filled_chunk piece.released.chunk piece.released.chunk.start Free []) piece.released.at.back)) (sym s.fronts)
+      ∙ (ap (λ (x : Chunk). join_front front (join_back (filled_chunk x x.start Free []) piece.released.at.back)) (sym s.chunks)
       ∙ ap (λ (xs : List Chunk). join_front front (join_back freed xs)) (sym s.backs)))
 
   pub gap_split : ds ≡ left.outer ++ gap ∷ right.rest
@@ -281,14 +303,11 @@ module _ (cs ds : List Chunk) (gs : List Gap) (a : Neighbours) (listed : IsListe
   pub gap_free : IsFree gap.kind
   gap_free = left.free (right.joined freed) (right.free freed tt)
 
-  pub gap_chunk_id : gap.chunk_id ≡ first_of a.before a.here.chunk_id
+  pub gap_chunk_id : gap.chunk_id ≡ first_of a.before k
   gap_chunk_id =
       left.chunk_id (right.joined freed)
-      ∙ (ap (λ (n : ℕ). first_of (last_beside None front) n) (right.chunk_id freed ∙ piece.around.at.numbered)
-      ∙ ap (λ (o : Option Neighbour). first_of o a.here.chunk_id) (sym piece.around.before))
-
-  pub gap_there : HasChunkId ds (first_of a.before a.here.chunk_id)
-  gap_there = (gap, record { front = left.outer; back = right.rest; split = gap_split; numbered = gap_chunk_id })
+      ∙ (ap (λ (n : ℕ). first_of (last_beside None front) n) (right.chunk_id freed ∙ piece.before.at.numbered)
+      ∙ ap (λ (o : Option Neighbour). first_of o k) (sym piece.before.before))
 
   abbrev low : List Gap
   low = gaps_between Free left.outer Free
@@ -299,10 +318,14 @@ module _ (cs ds : List Chunk) (gs : List Gap) (a : Neighbours) (listed : IsListe
   abbrev pub entry : Gap
   entry = gap_between (last_kind Free left.outer) gap (kind_or right.rest Free)
 
+  pub entry_is : (before after : AllocationType) → AreDistinct ds → before ≡ beside_kind b.before → after ≡ beside_kind b.after
+      → record { length = b.here.size; start = b.here.start; chunk_id = b.here.chunk_id; before = before; after = after } ≡ entry
+  entry_is before after w eb ea = gap_here ds left.outer right.rest gap (first_of a.before k) b before after w piece.after eb ea gap_split gap_chunk_id
+
   old_same : HasSame gs (low ++ (left.gone ++ (right.gone ++ high)))
   old_same =
       same_to gs (gaps_between Free cs Free) (low ++ (left.gone ++ (right.gone ++ high))) listed.same
-      (ap (λ (xs : List Chunk). gaps_between Free xs Free) piece.around.at.split ∙ (gaps_live front chunk back live
+      (ap (λ (xs : List Chunk). gaps_between Free xs Free) piece.before.at.split ∙ (gaps_live front chunk back live
       ∙ (ap (λ (xs : List Gap). xs ++ gaps_between chunk.kind back Free) left.gaps ∙ (ap (λ (xs : List Gap). (low ++ left.gone) ++ xs) right.gaps ∙ append_assoc low left.gone (right.gone ++ high)))))
 
   new_gaps : gaps_between Free ds Free ≡ low ++ entry ∷ high
@@ -312,18 +335,18 @@ module _ (cs ds : List Chunk) (gs : List Gap) (a : Neighbours) (listed : IsListe
       ∙ ap (λ (q : AllocationType). low ++ entry ∷ gaps_between q right.rest Free) (free_is gap.kind gap_free)))
 
   pub may_before : MayForget a.before gs
-  may_before = subst (λ (o : Option Neighbour). MayForget o gs) (sym piece.around.before) (left.goes.may gs low (right.gone ++ high) old_same)
+  may_before = subst (λ (o : Option Neighbour). MayForget o gs) (sym piece.before.before) (left.goes.may gs low (right.gone ++ high) old_same)
 
   module _ (one two : List Gap) (ordered : AllPairs Before gs) (first : Forgets a.before gs one) where
     one_same : HasSame one (low ++ (right.gone ++ high))
-    one_same = left.goes.step gs one low (right.gone ++ high) ordered old_same (subst (λ (o : Option Neighbour). Forgets o gs one) piece.around.before first)
+    one_same = left.goes.step gs one low (right.gone ++ high) ordered old_same (subst (λ (o : Option Neighbour). Forgets o gs one) piece.before.before first)
 
     pub may_after : MayForget a.after one
-    may_after = subst (λ (o : Option Neighbour). MayForget o one) (sym piece.around.after) (right.goes.may one low high one_same)
+    may_after = subst (λ (o : Option Neighbour). MayForget o one) (sym piece.before.after) (right.goes.may one low high one_same)
 
     module _ (ordered_one : AllPairs Before one) (second : Forgets a.after one two) where
       two_same : HasSame two (low ++ high)
-      two_same = right.goes.step one two low high ordered_one one_same (subst (λ (o : Option Neighbour). Forgets o one two) piece.around.after second)
+      two_same = right.goes.step one two low high ordered_one one_same (subst (λ (o : Option Neighbour). Forgets o one two) piece.before.after second)
 
       pub no_entry : (size : ℕ) → Covers ds 0 size → HasNoKey two entry.length entry.start
       no_entry size covers =
@@ -348,7 +371,7 @@ module _ (cs ds : List Chunk) (gs : List Gap) (a : Neighbours) (listed : IsListe
           let x1 = ap (λ (xs : List Chunk). length (extents_of xs)) gap_split in
           let x2 = ap length (extents-append left.outer (gap ∷ right.rest) ∙ ap (λ ys. extents_of left.outer ++ ys) (extents-free gap right.rest gap_free)) in
           let x3 = length-append (extents_of left.outer) (extents_of right.rest) in
-          let y1 = ap (λ (xs : List Chunk). length (extents_of xs)) piece.around.at.split in
+          let y1 = ap (λ (xs : List Chunk). length (extents_of xs)) piece.before.at.split in
           let y2 = ap length (extents-split front back chunk live) in
           let y3 = length-append (extents_of front) (extent chunk ∷ extents_of back) in
           let z1 = ap length left.shown in

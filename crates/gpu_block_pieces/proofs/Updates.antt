@@ -1,48 +1,22 @@
 -- What a take changes of the chunks and of the index.
-use Rattle.std.proofs.Common.{◌≡◌, ◌≢◌, ℕ, ◌+◌, ◌-◌, ◌<◌, List, [], ◌∷◌, ◌++◌, length, refl, sym, ap, ◌∙◌, subst, arith, Option, Some, None}
+use Rattle.std.proofs.Common.{◌≡◌, ℕ, ◌+◌, ◌-◌, ◌<◌, List, ◌∷◌, ◌++◌, length, sym, ap, ◌∙◌, subst, arith}
 use Rattle.std.specs.Prelude.{Contains}
 use Rattle.std.specs.List.{AllPairs}
 use Rattle.std.proofs.lemmas.List.{length-append}
 use Rattle.gpu_block_chunks.specs.declared.chunk.Chunk.{Chunk}
-use Rattle.gpu_block_chunks.specs.declared.chain.Neighbour.{Neighbour}
-use Rattle.gpu_block_chunks.specs.declared.chain.Neighbours.{Neighbours}
 use Rattle.gpu_block_gaps.specs.declared.index.Gap.{Gap}
 use Rattle.gpu_values.specs.declared.allocation_type.AllocationType.{AllocationType}
 use Rattle.gpu_values.specs.declared.allocation_type.AllocationType.TheVariants.{Free, Linear}
 use Rattle.gpu_block_chunks.specs.ChunkList.{IsFree, Covers, AreDistinct, cut_chunk, filled_chunk}
 use Rattle.gpu_block_pieces.specs.Chunks.{NotBothFree, NoneTouch, last_kind, extents_of, extent}
-use Rattle.gpu_block_chunks.specs.Chain.{Name, HasChunkId, HasNoChunkId, AreNeighbours, IsLonger, IsSplit, IsFilled, front_piece, beside, last_beside, first_beside}
+use Rattle.gpu_block_chunks.specs.Chain.{Name, HasChunkId, IsLonger, IsSplit, IsFilled, front_piece}
 use Rattle.gpu_block_gaps.specs.Index.{Before, HasKeyAt, HasNoKey, IsRemoved, IsInserted}
-use Rattle.gpu_block_pieces.specs.Indexed.{gap_between, kind_or, gaps_between, HasSame, IsListed, IsGapOf, beside_kind}
+use Rattle.gpu_block_pieces.specs.Indexed.{gap_between, kind_or, gaps_between, HasSame, IsListed, IsGapOf}
 use Rattle.gpu_block_pieces.proofs.Views.{extents-free, extents-append, extents-split}
 use Rattle.gpu_block_pieces.proofs.Takings.{Touching, touching, touch_join, live_after, live_before, after_live}
-use Rattle.std.proofs.lemmas.List.Elements.{All-head}
-use Rattle.gpu_block_chunks.proofs.Parts.{All-parts}
 use Rattle.gpu_block_chunks.proofs.Listing.{stands_once}
 use Rattle.gpu_block_pieces.proofs.Indexing.{free_is, first_free, gaps_free, gaps_live, after_same, before_same, none_after, other_starts, member_at, same_member, same_back, key_there, no_key}
 use Rattle.gpu_block_pieces.proofs.Indexing.{same_less, same_more, same_to}
-
--- ---- what stands beside a chunk
-
-last_beside_kind : (o : Option Neighbour) (xs : List Chunk) → beside_kind (last_beside o xs) ≡ last_kind (beside_kind o) xs
-last_beside_kind o [] = refl
-last_beside_kind o (x ∷ xs) = last_beside_kind (Some (beside x)) xs
-
-first_beside_kind : (xs : List Chunk) → beside_kind (first_beside xs) ≡ kind_or xs Free
-first_beside_kind [] = refl
-first_beside_kind (x ∷ xs) = refl
-
-pub gap_here : (cs front back : List Chunk) (c : Chunk) (k : ℕ) (a : Neighbours) (before after : AllocationType) → AreDistinct cs → AreNeighbours cs k a → before ≡ beside_kind a.before → after ≡ beside_kind
-    a.after → cs ≡ front ++ c ∷ back → c.chunk_id ≡ k
-    → record { length = a.here.size; start = a.here.start; chunk_id = a.here.chunk_id; before = before; after = after } ≡ gap_between (last_kind Free front) c (kind_or back Free)
-gap_here cs front back c k a before after w m eb ea p n =
-    let s = stands_once cs front back c m.chunk k w m.at p n in
-    let b : before ≡ last_kind Free front = eb ∙ ap beside_kind m.before ∙ last_beside_kind None m.at.front ∙ ap (last_kind Free) (sym s.fronts) in
-    let f : after ≡ kind_or back Free = ea ∙ ap beside_kind m.after ∙ first_beside_kind m.at.back ∙ ap (λ (xs : List Chunk). kind_or xs Free) (sym s.backs) in
-    ap (λ (h : Neighbour). record { length = h.size; start = h.start; chunk_id = h.chunk_id; before = before; after = after }) m.here
-    ∙ ap (λ (x : AllocationType). gap_between x m.chunk after) b
-    ∙ ap (λ (x : AllocationType). gap_between (last_kind Free front) m.chunk x) f
-    ∙ ap (λ (x : Chunk). gap_between (last_kind Free front) x (kind_or back Free)) (sym s.chunks)
 
 piece_kind : (k : AllocationType) → (k ≡ Free → ⊥) → IsFree k → ⊥
 piece_kind k h f = h (free_is k f)
@@ -191,11 +165,3 @@ module _ (cs : List Chunk) (gs : List Gap) (g : Gap) (listed : IsListed cs gs) (
               { before = t.before; at = live_after (last_kind Linear m.front) kind (piece_kind kind live); after = after_live kind m.back m.chunk.kind (piece_kind kind live) t.after }));
           same = same_to mid (low ++ high) (gaps_between Free ds Free) (mid_same mid ordered r) (sym whole_gaps);
         }
-
--- ---- a number that no chunk has
-
-pub none_stands : (cs : List Chunk) (k : ℕ) → HasNoChunkId cs k → HasChunkId cs k → ⊥
-none_stands cs k none has =
-    let s = has.1 in
-    let all = All-parts (λ (c : Chunk). c.chunk_id ≢ k) s.front (has.0 ∷ s.back) (subst (λ (xs : List Chunk). HasNoChunkId xs k) s.split none) in
-    All-head (λ (c : Chunk). c.chunk_id ≢ k) has.0 s.back all.1 s.numbered

@@ -11,8 +11,7 @@ use Rattle.gpu_block_pieces.specs.declared.search.Found.{Found}
 use Rattle.gpu_block_pieces.specs.Place.{FitsBetween}
 use Rattle.gpu_block_chunks.specs.ChunkList.{IsFree}
 use Rattle.gpu_block_pieces.specs.Chunks.{NoneTouch, Differ, last_kind, extents_of, FoundAt, IsBestOf}
-use Rattle.gpu_block_chunks.specs.declared.chain.Neighbours.{Neighbours}
-use Rattle.gpu_block_chunks.specs.Chain.{AreNeighbours, StandsAt}
+use Rattle.gpu_block_chunks.specs.Chain.{StandsAt, IsReleased}
 use Rattle.gpu_cost.specs.declared.cost.Cost.{Cost}
 use Rattle.gpu_cost.specs.Cost.{digits}
 use Rattle.gpu_block_gaps.specs.Index.{IsRemoved, IsInserted, HasKeyAt}
@@ -152,20 +151,13 @@ abbrev pub beside_kind : Option Neighbour → AllocationType
 beside_kind None = Free
 beside_kind (Some b) = b.kind
 
--- the number of the gap that a chunk becomes: that of the gap before it, if there is one
-abbrev pub first_by : AllocationType → ℕ → ℕ → ℕ
-first_by Free before chunk_id = before
-first_by Linear before chunk_id = chunk_id
-first_by NonLinear before chunk_id = chunk_id
-
-abbrev pub first_of : Option Neighbour → ℕ → ℕ
-first_of None chunk_id = chunk_id
-first_of (Some b) chunk_id = first_by b.kind b.chunk_id chunk_id
-
--- the chunk is a piece, and stands so in the list
-pub record IsPieceAt (cs : List Chunk) (a : Neighbours) : Type 0 where
-  pub around : AreNeighbours cs (a.here).chunk_id a
-  pub live : IsFree (a.here).kind → ⊥
+-- the piece of that number was freed, and had so many bytes
+pub record IsFreed (old : List Chunk) (chunk_id bytes : ℕ) (new : List Chunk) : Type 0 where
+  pub chunk : Chunk
+  pub at : StandsAt old chunk_id chunk
+  pub live : IsFree chunk.kind → ⊥
+  pub bytes_is : bytes ≡ chunk.size
+  pub released : IsReleased old chunk_id new
 
 -- the piece of that number has that offset and kind
 pub record IsPieceOf (cs : List Chunk) (chunk_id offset : ℕ) (kind : AllocationType) : Type 0 where

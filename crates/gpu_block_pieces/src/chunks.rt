@@ -5,13 +5,13 @@ ghost use Rattle.std.specs.List.{list_any};
 ghost use Rattle.gpu_cost.specs.Cost.{LooksUp, LooksUpBetween, Tests};
 ghost use Rattle.gpu_block_chunks.specs.ChunkList.{IsFree};
 ghost use Rattle.gpu_block_pieces.specs.Chunks.{IsTaken, IsNamedAt, HoldsChunkId, extents_of, is_gap_by};
-ghost use Rattle.gpu_block_chunks.specs.Chain.{IsFresh, HasNoChunkId, StandsAt, IsReleased};
-ghost use Rattle.gpu_block_pieces.specs.Indexed.{HasSame, gaps_between, ArePlaced, IsChosen, chosen_at, IsPieceAt, IsPieceOf, IsLongestOf};
+ghost use Rattle.gpu_block_chunks.specs.Chain.{IsFresh, HasNoChunkId, StandsAt};
+ghost use Rattle.gpu_block_pieces.specs.Indexed.{HasSame, gaps_between, ArePlaced, IsChosen, chosen_at, IsFreed, IsPieceOf, IsLongestOf};
 
 use crate::place::Wanted;
 use crate::search::Found;
 use crate::update::{allocate_front, allocate_whole, release};
-use gpu_block_chunks::{Chain, Chunk, Name, Neighbours, Walk, is_free};
+use gpu_block_chunks::{Chain, Chunk, Name, Walk, is_free};
 use gpu_block_gaps::{Gap, GapIndex};
 use gpu_cost::Cost;
 use gpu_values::AllocationType;
@@ -147,33 +147,19 @@ impl Chunks {
         Ok(found.gap.chunk_id)
     }
 
-    /// The live piece of that number, and what stands beside it.
-    pub fn piece_around(&self, chunk_id: u64, cost: &mut Cost) -> Option<Neighbours>
-        ensures piece { MatchOption result ((k : ℕ) → HoldsChunkId self.now.items chunk_id k → ⊥)
-            (λ a. (a.here.chunk_id ≡ chunk_id) × IsPieceAt self.now.items a) }
-        ensures counted { LooksUpBetween 1 3 cost.old cost.new }
-    {
-        // a read, so that the proof has the invariant
-        let _live = self.live;
-        self.chain.laid_out();
-        let around = self.chain.around(chunk_id, cost)?;
-        if is_free(around.here.kind) {
-            return None;
-        }
-        Some(around)
-    }
-
-    /// Frees a live piece, and joins its place with the gaps beside it. It takes no memory.
-    pub fn release(&mut self, around: Neighbours, cost: &mut Cost)
-        requires piece { IsPieceAt self.old.items around }
-        ensures released { IsReleased self.old.items around.here.chunk_id self.new.items }
+    /// Frees the live piece of that number, and joins its place with the gaps beside it: its bytes, padding included. Where the number is
+    /// no live piece's nothing changes. It takes no memory.
+    pub fn free(&mut self, chunk_id: u64, cost: &mut Cost) -> Option<u64>
+        ensures freed { MatchOption result
+            (((k : ℕ) → HoldsChunkId self.old.items chunk_id k → ⊥) × (self.new ≡ self.old))
+            (λ bytes. IsFreed self.old.items chunk_id bytes self.new.items) }
         ensures size { self.new.size ≡ self.old.size }
-        ensures counted { LooksUpBetween 5 15 cost.old cost.new }
+        ensures counted { MatchOption result (LooksUpBetween 1 4 cost.old cost.new)
+            (λ bytes. LooksUpBetween 6 18 cost.old cost.new) }
     {
-        // a read, so that the proof has the invariant
-        self.chain.laid_out();
+        let freed = release(&mut self.chain, &mut self.index, chunk_id, cost)?;
         self.live -= 1;
-        release(&mut self.chain, &mut self.index, around, cost);
+        Some(freed)
     }
 
     /// The live piece of that number.

@@ -168,11 +168,10 @@ impl FreeListAllocator {
         let Some(id) = chunk_id else {
             return Err(internal_fault("Chunk ID must be a valid value."));
         };
-        let Some(around) = self.chunks.piece_around(id.get(), &mut self.cost) else {
+        let Some(freed) = self.chunks.free(id.get(), &mut self.cost) else {
             return Err(internal_fault("Attempting to free chunk that is not in chunk list."));
         };
-        self.chunks.release(around, &mut self.cost);
-        self.allocated -= around.here.size;
+        self.allocated -= freed;
         Ok(())
     }
 

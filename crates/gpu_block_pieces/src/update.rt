@@ -1,11 +1,10 @@
 //! The changes of the chunks of a block: each is one of the chain, and beside it one of the index.
 
-ghost use Rattle.std.specs.Prelude.{◌≡◌, ◌≢◌, ◌+◌, ◌-◌, ◌<◌, ◌≤◌, length, ◌++◌, ◌∷◌, List, IsTrue, ◌↔◌};
-ghost use Rattle.gpu_block_chunks.specs.declared.chunk.Chunk.{Chunk};
+ghost use Rattle.std.specs.Prelude.{◌≡◌, ◌≢◌, ◌+◌, ◌-◌, ◌<◌, ◌≤◌, length, List, IfSome, MatchOption, IsTrue, ◌↔◌};
 ghost use Rattle.gpu_cost.specs.Cost.{LooksUp, LooksUpBetween};
-ghost use Rattle.gpu_block_pieces.specs.Chunks.{last_kind, extents_of};
-ghost use Rattle.gpu_block_chunks.specs.Chain.{HasChunkId, HasNoChunkId, IsSplit, IsFilled, IsReleased};
-ghost use Rattle.gpu_block_pieces.specs.Indexed.{IsListed, IsGapOf, gap_between, kind_or, Forgets, beside_kind, IsGapBeside, MayForget, IsPut, IsJoined, first_of, IsPieceAt};
+ghost use Rattle.gpu_block_pieces.specs.Chunks.{extents_of};
+ghost use Rattle.gpu_block_chunks.specs.Chain.{HasNoChunkId, HasNoPiece, IsSplit, IsFilled};
+ghost use Rattle.gpu_block_pieces.specs.Indexed.{IsListed, IsGapOf, Forgets, beside_kind, IsGapBeside, MayForget, IsPut, IsJoined, IsFreed};
 ghost use Rattle.gpu_block_gaps.specs.declared.index.Gap.{Gap};
 ghost use Rattle.gpu_block_gaps.specs.Index.{HasNoKey};
 
@@ -162,68 +161,37 @@ fn kind_of(beside: Option<Neighbour>) -> AllocationType
     }
 }
 
-/// The entry of the free chunk of that number, which is looked for in that slot first.
-fn gap_at(chain: &Chain, chunk_id: u64, near: u32, cost: &mut Cost) -> Gap
-    requires there { HasChunkId chain.now.chunks chunk_id }
-    ensures gap { (front : List Chunk) (c : Chunk) (back : List Chunk)
-        → chain.now.chunks ≡ front ++ c ∷ back → c.chunk_id ≡ chunk_id
-        → result ≡ gap_between (last_kind AllocationType.Free front) c
-        (kind_or back AllocationType.Free) }
-    ensures counted { LooksUpBetween 1 3 cost.old cost.new }
-{
-    chain.laid_out();
-    let Some(around) = chain.around_near(chunk_id, near, cost) else {
-        unreachable!();
-    };
-    Gap {
-        length: around.here.size,
-        start: around.here.start,
-        chunk_id: around.here.chunk_id,
-        before: kind_of(around.before),
-        after: kind_of(around.after),
-    }
-}
-
-/// The number of the gap that the chunk becomes: that of the gap before it, if there is one.
-fn first_chunk_id(around: Neighbours) -> u64
-    ensures { result ≡ first_of around.before around.here.chunk_id }
-{
-    match around.before {
-        Some(beside) => {
-            if is_free(beside.kind) {
-                beside.chunk_id
-            } else {
-                around.here.chunk_id
-            }
-        }
-        None => around.here.chunk_id,
-    }
-}
-
-/// The slot to look for that gap in first.
-fn first_slot(around: Neighbours) -> u32 {
-    if is_gap(around.before) {
-        around.slot_before
-    } else {
-        around.slot
-    }
-}
-
-/// Frees a piece, and joins it with the gaps beside it. It takes no memory.
-pub fn release(chain: &mut Chain, index: &mut GapIndex, around: Neighbours, cost: &mut Cost)
+/// Frees the piece of that number, and joins it with the gaps beside it: its bytes, padding included. Where the number is no piece's
+/// nothing changes. It takes no memory.
+pub fn release(
+    chain: &mut Chain,
+    index: &mut GapIndex,
+    chunk_id: u64,
+    cost: &mut Cost,
+) -> Option<u64>
     requires listed { IsListed chain.old.chunks index.old.gaps }
-    requires piece { IsPieceAt chain.old.chunks around }
     requires room { length (extents_of chain.old.chunks) + 1 ≤ index.old.room }
-    ensures chunks { IsReleased chain.old.chunks around.here.chunk_id chain.new.chunks }
+    ensures freed { MatchOption result
+        (HasNoPiece chain.old.chunks chunk_id × (chain.new ≡ chain.old) × (index.new ≡ index.old))
+        (λ bytes. IsFreed chain.old.chunks chunk_id bytes chain.new.chunks) }
     ensures listed { IsListed chain.new.chunks index.new.gaps }
-    ensures live { length (extents_of chain.new.chunks) + 1 ≡ length (extents_of chain.old.chunks) }
+    ensures live { IfSome result (λ bytes. length (extents_of chain.new.chunks) + 1
+        ≡ length (extents_of chain.old.chunks)) }
     ensures size { (chain.new.size ≡ chain.old.size) × (index.new.room ≡ index.old.room) }
-    ensures counted { LooksUpBetween 5 15 cost.old cost.new }
+    ensures counted { MatchOption result (LooksUpBetween 1 4 cost.old cost.new)
+        (λ bytes. LooksUpBetween 6 18 cost.old cost.new) }
 {
     chain.laid_out();
-    chain.release(around.here.chunk_id, around.slot, cost);
+    let (around, joined) = chain.release_piece(chunk_id, cost)?;
     chain.laid_out();
     index.in_order();
-    let gap = gap_at(chain, first_chunk_id(around), first_slot(around), cost);
+    let gap = Gap {
+        length: joined.here.size,
+        start: joined.here.start,
+        chunk_id: joined.here.chunk_id,
+        before: kind_of(joined.before),
+        after: kind_of(joined.after),
+    };
     put_joined(index, around, gap);
+    Some(around.here.size)
 }
