@@ -26,8 +26,8 @@ use crate::source::MetalBlocks;
 use crate::{
     Allocation, AllocationCreateDesc, AllocatorCreateDesc, empty_types, request_of, type_for,
 };
-use gpu_device::metal::{MTLHeap, MTLResidencySet, MetalDevice};
 use gpu_core::MemoryTypes;
+use gpu_device::metal::{MTLHeap, MTLResidencySet, MetalDevice};
 use gpu_pool::{Handles, Pool};
 use gpu_values::{AllocationError, AllocatorDebugSettings, AllocatorReport, Result};
 use log::Log;
