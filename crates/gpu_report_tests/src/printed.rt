@@ -1,5 +1,8 @@
 //! Tests of printed texts. What they look at is told by a `bool`: a proof of a call that may abort costs more than the call itself.
 
+ghost use Rattle.std.specs.Prelude.{◌≡◌, ◌≢◌, ◌<◌, IsTrue};
+ghost use Rattle.std.specs.Int.{is_power_of_two};
+
 use gpu_core::{
     AllocationReport, AllocationType, AllocatorReport, DedicatedBlockAllocator, FreeListAllocator,
     MemoryBlockReport, SubAllocator,
@@ -93,6 +96,23 @@ fn reads_back<D: Display>(
     }
 }
 
+/// Whether a block with pages of one byte has a place for a piece.
+fn takes(
+    list: &mut FreeListAllocator,
+    size: u64,
+    alignment: u64,
+    kind: AllocationType,
+    name: &str,
+) -> bool
+    requires sized { 0 < size }
+    requires aligned { IsTrue (is_power_of_two alignment) }
+    requires piece { kind ≢ AllocationType.Free }
+    requires paged { list.old.block.granularity ≡ 1 }
+    ensures paged { list.new.block.granularity ≡ 1 }
+{
+    list.allocate(size, alignment, kind, 1, name).is_ok()
+}
+
 /// A block with a piece of 300 bytes, and one of 1000 bytes behind padding.
 fn two_pieces(alloc: Global, name: &str) -> Option<SubAllocator> {
     let one = 1u64;
@@ -101,15 +121,11 @@ fn two_pieces(alloc: Global, name: &str) -> Option<SubAllocator> {
         return None;
     }
     let mut list = FreeListAllocator::new(alloc, 4_194_304, one).ok()?;
-    if list
-        .allocate(300, one, AllocationType::Linear, one, name)
-        .is_err()
-    {
-        return None;
-    }
-    match list.allocate(1000, alignment, AllocationType::NonLinear, one, "b") {
-        Ok(_) => Some(SubAllocator::FreeList(list)),
-        Err(_) => None,
+    let took = takes(&mut list, 300, one, AllocationType::Linear, name);
+    if took && takes(&mut list, 1000, alignment, AllocationType::NonLinear, "b") {
+        Some(SubAllocator::FreeList(list))
+    } else {
+        None
     }
 }
 
