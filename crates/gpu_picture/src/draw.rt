@@ -1,7 +1,8 @@
 //! What is written of the blocks that a trace leaves.
 
-ghost use Rattle.std.specs.Prelude.{◌≡◌, map, IfOk, OnOk};
+ghost use Rattle.std.specs.Prelude.{◌≡◌, map, IfOk, IfErr, OnOk};
 ghost use Rattle.std.specs.Io.KnownBytes.{Appends};
+ghost use Rattle.gpu_values.specs.declared.error.AllocationError.TheVariants.{HostOutOfMemory};
 ghost use Rattle.gpu_report.specs.View.{shown};
 ghost use Rattle.gpu_picture.specs.Draw.{drawing, shown_types, DrawsBlock, DrawsTypes, DrawsVulkan, DrawsMetal, DrawsD3D12, Draws};
 
@@ -61,7 +62,8 @@ fn views_of<'a, H: Copy + Eq>(
     alloc: Global,
     types: &'a MemoryTypes<H>,
 ) -> Result<Vec<BlockView<'a>>, AllocationError>
-    ensures { IfOk result (λ views. map shown views.items ≡ shown_types 0 types.now) }
+    ensures views { IfOk result (λ views. map shown views.items ≡ shown_types 0 types.now) }
+    ensures cause { IfErr result (λ e. e ≡ HostOutOfMemory) }
 {
     let mut views = Vec::new(alloc);
     for index in 0..types.count() {
