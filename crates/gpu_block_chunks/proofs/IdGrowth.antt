@@ -21,14 +21,10 @@ pub no_ids : (n : ℕ) → ids_in (replicate n None) ≡ replicate n None
 no_ids zero = refl
 no_ids (suc n) = ap (λ (ids : List (Option ℕ)). None ∷ ids) (no_ids n)
 
-pub none_only : {X : Type 0} (P : Option X → Type 0) → ((x : X) → P (Some x) → ⊥) → (y : Option X) → P y → y ≡ None
-none_only P never None h = refl
-none_only P never (Some x) h = absurd (never x h)
-
 never : (n s k : ℕ) → id_at (ids_in (replicate n None)) s ≡ Some k → ⊥
 never n s k at = let no : None ≡ Some k = sym (ap (λ (ids : List (Option ℕ)). id_at ids s) (no_ids n) ∙ none_at n s) ∙ at in cc
 
-pub fresh_chains : (p n : ℕ) → IsPowerOfTwo p → n ≤ p → n ≤ 2 ^ 32 → AreChains (replicate p None) (replicate n None)
+pub fresh_chains : (p n : ℕ) → IsPowerOfTwo p → n ≤ p → n < 2 ^ 32 → AreChains (replicate p None) (replicate n None)
 fresh_chains p n power enough few =
     record {
       power = subst IsPowerOfTwo (sym (length-replicate p None)) power;
@@ -73,7 +69,7 @@ module _ (heads : List (Option ℕ)) (es : List (Option Entry)) (more : ℕ) (ar
       (link_at heads es chain (Some q)) (λ m holds. (holds.0, λ top e. holds.1 top (sym (id_same q) ∙ e))) (λ m holds. (holds.0, λ top e. holds.1 top (id_same q ∙ e)))
       (leads_same _ (link_at heads es chain (Some q)) (are.linked chain (Some q) lt (of.0, sym (id_same q) ∙ of.1, of.2))))
 
-  pub more_chains : length (es ++ replicate more None) ≤ length heads → length (es ++ replicate more None) ≤ 2 ^ 32 → AreChains heads (es ++ replicate more None)
+  pub more_chains : length (es ++ replicate more None) ≤ length heads → length (es ++ replicate more None) < 2 ^ 32 → AreChains heads (es ++ replicate more None)
   more_chains enough few =
       record {
         power = are.power;

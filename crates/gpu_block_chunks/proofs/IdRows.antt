@@ -1,11 +1,13 @@
 -- The chains of a row of entries, after one of them is written.
 use Rattle.std.proofs.Common.{◌≡◌, ◌≢◌, ℕ, ◌<◌, ◌%◌, List, length, get_or, set, Option, Some, None, refl, sym, ap, ◌∙◌, subst, inl, inr, arith}
+use Rattle.std.specs.Prelude.{IfSome}
 use Rattle.std.specs.Int.{IsPowerOfTwo}
 use Rattle.std.specs.Option.{option_map}
 use Rattle.std.proofs.lemmas.Bool.{cases_lt}
 use Rattle.std.proofs.lemmas.Option.{same_Some}
 use Rattle.std.proofs.lemmas.List.{length-map, length-set, map-set, get_or_past, get_or-set_same}
 use Rattle.gpu_block_chunks.specs.declared.chain.chunk_ids.Entry.{Entry}
+use Rattle.gpu_block_chunks.specs.SlotLink.{IsLinkable}
 use Rattle.gpu_block_chunks.specs.ChunkIds.{id_at, slot_of, ids_in, next_of, link_at, HasGreatest, LeadsTo, IsAbove, IsOf, IsBelow, AreLinked, AreChains, IsPlace, ChangesLink}
 use Rattle.gpu_block_chunks.proofs.IdChains.{reach, same_id, was, left, inserted, removed}
 use Rattle.gpu_block_chunks.proofs.IdSlots.{no_id, slot_none, slot_absent, link_set}
@@ -31,6 +33,17 @@ falls ids s t m n at_s at_t less =
 pub led_to : (heads : List (Option ℕ)) (es : List (Option Entry)) (chain : ℕ) (before : Option ℕ) (s : ℕ) → AreChains heads es → chain < length heads → IsOf (ids_in es) (length heads) chain before
     → link_at heads es chain before ≡ Some s → HasGreatest (ids_in es) (λ m. (m % length heads ≡ chain) × IsBelow (ids_in es) before m) s
 led_to heads es chain before s are bound of leads = subst (LeadsTo (ids_in es) (λ m. (m % length heads ≡ chain) × IsBelow (ids_in es) before m)) leads (are.linked chain before bound of)
+
+-- each link of the chains can be packed
+pub linkable : (heads : List (Option ℕ)) (es : List (Option Entry)) (chain : ℕ) (before : Option ℕ) → AreChains heads es → chain < length heads → IsOf (ids_in es) (length heads) chain before
+    → (link : Option ℕ) → link ≡ link_at heads es chain before → IfSome link IsLinkable
+linkable heads es chain before are bound of None is = tt
+linkable heads es chain before are bound of (Some s) is =
+    let has = led_to heads es chain before s are bound of (sym is) in
+    let within = id_within (ids_in es) s has.id has.at in
+    let same = ids_length es in
+    let few = are.few in
+    omega arith
 
 pub below_of : (ids : List (Option ℕ)) (s k : ℕ) → IsAbove ids s k → IsBelow ids (Some s) k
 below_of ids s k above = λ top e. let one = same_id ids s top above.0 e above.1 in let more = above.2 in omega arith

@@ -3,9 +3,10 @@ use Rattle.std.proofs.Common.{◌≡◌, ◌≢◌, ℕ, ◌+◌, ◌<◌, List,
 use Rattle.std.specs.Option.{option_map}
 use Rattle.std.proofs.lemmas.Bool.{cases_lt, eqb-true, eq-eqb, false≢true}
 use Rattle.std.proofs.lemmas.Option.{same_Some}
-use Rattle.std.proofs.lemmas.List.{get_or-map, get_or_past, length-map, map-set, get_or-set_other, set-get_or}
+use Rattle.std.proofs.lemmas.List.{get_or-map, get_or_past, length-map, get_or-set_other}
 use Rattle.gpu_block_chunks.specs.declared.chain.chunk_ids.Entry.{Entry}
 use Rattle.gpu_block_chunks.specs.Chain.{is_at}
+use Rattle.gpu_block_chunks.specs.EntryCell.{with_next}
 use Rattle.gpu_block_chunks.specs.ChunkIds.{id_at, slot_of, ids_in, next_of, link_at}
 
 -- ---- entries
@@ -115,7 +116,12 @@ pub link_set : (heads : List (Option ℕ)) (es : List (Option Entry)) (s : ℕ) 
 link_set heads es s x chain None ne = refl
 link_set heads es s x chain (Some q) ne = ap next_of (get_or-set_other es s q x None (λ (is : q ≡ s). ne (ap (λ (u : ℕ). Some u) is)))
 
-pub ids_kept : (es : List (Option Entry)) (s : ℕ) (e : Entry) (link : Option ℕ) → get_or es s None ≡ Some e → ids_in (set es s (Some record { chunk_id = e.chunk_id; next = link })) ≡ ids_in es
-ids_kept es s e link at =
-    map-set (option_map (λ (e : Entry). e.chunk_id)) es s (Some record { chunk_id = e.chunk_id; next = link })
-    ∙ ap (set (ids_in es) s) (sym (id_of_entry es s e at)) ∙ set-get_or (ids_in es) s None
+same_id : (x : Option Entry) (link : Option ℕ) → option_map (λ (e : Entry). e.chunk_id) (option_map (with_next link) x) ≡ option_map (λ (e : Entry). e.chunk_id) x
+same_id None link = refl
+same_id (Some e) link = refl
+
+-- an entry with another link has the same id
+pub ids_kept : (es : List (Option Entry)) (s : ℕ) (link : Option ℕ) (other : Option Entry) → ids_in (set es s (option_map (with_next link) (get_or es s other))) ≡ ids_in es
+ids_kept [] s link other = refl
+ids_kept (x ∷ es) zero link other = ap (λ (id : Option ℕ). id ∷ ids_in es) (same_id x link)
+ids_kept (x ∷ es) (suc s) link other = ap (λ (ids : List (Option ℕ)). option_map (λ (e : Entry). e.chunk_id) x ∷ ids) (ids_kept es s link other)

@@ -1,7 +1,10 @@
 pub mod Parts
 pub mod Links
 pub mod Slots
+pub mod SlotRows
 pub mod FreeSlots
+pub mod SlotWrites
+pub mod SlotFills
 pub mod Splits
 pub mod Joins
 pub mod Unlinks

@@ -1,8 +1,7 @@
 -- Chunks in slots: what is held under each number after one slot is written, a chunk is put into a slot, or taken out of it.
 use Rattle.std.proofs.Common.{◌≡◌, ◌≢◌, ℕ, Bool, ◌-◌, ◌<◌, ◌≤◌, ◌^◌, min, List, ◌++◌, length, get_or, set, replicate}
 use Rattle.std.proofs.Common.{Option, Some, None, IsSome, IsSomeAnd, IfSome, cond, ◌==◌, refl, sym, ap, ◌∙◌, subst, inl, inr, arith}
-use Rattle.std.specs.Borrow.{Bor}
-use Rattle.std.specs.Option.{option_map, option_copied}
+use Rattle.std.specs.Option.{option_map}
 use Rattle.std.proofs.lemmas.Bool.{cases_eq, false≢true}
 use Rattle.std.proofs.lemmas.Option.{same_Some}
 use Rattle.std.proofs.lemmas.List.{length-append, length-set, get_or-set_same, get_or-set_other, get_or_past}
@@ -12,7 +11,9 @@ use Rattle.gpu_block_chunks.specs.declared.chunk.Chunk.{Chunk}
 use Rattle.gpu_block_chunks.specs.Chain.{Node, ChangesAt, node_of}
 use Rattle.gpu_block_chunks.specs.Nodes.{Slotted, AreSound, IsAlone, IsTaken, LeadsIn, Leads, Reaches, stored_in, held_at, node_value, number_at, link_chunk_id, link_slot}
 use Rattle.gpu_block_chunks.specs.ChunkIds.{id_at, slot_of}
-use Rattle.gpu_block_chunks.specs.Slots.{Stored, taken, IsFirst}
+use Rattle.gpu_block_chunks.specs.declared.chain.link.LinkedView.{LinkedView}
+use Rattle.gpu_block_chunks.specs.Slots.{Stored, taken, linked_of, IsFirst}
+use Rattle.gpu_block_chunks.specs.SlotLink.{IsLinkable}
 use Rattle.gpu_block_chunks.proofs.Links.{same_test, apart_test}
 use Rattle.gpu_block_chunks.proofs.IdChains.{was, left}
 use Rattle.gpu_block_chunks.proofs.IdSlots.{slot_has, slot_none, slot_found, slot_set, slot_out, slot_more}
@@ -132,6 +133,14 @@ module _ (ids : List (Option ℕ)) (old new : List (Option LinkedChunk)) (sound 
         | inr ne ↦ rw (apart_test k q ne) (ap (λ (o : Option LinkedChunk). option_map (node_value ids) o) (untouched q ne (slot_of ids q) refl))
       ]
 
+inside_of : (ids : List (Option ℕ)) (s : ℕ) → IsSome (get_or ids s None) → s < length ids
+inside_of ids s there = grind (arith, get_or_past)
+
+-- a link to a slot that is taken can be stored
+pub linkable : (ids : List (Option ℕ)) → length ids < 2 ^ 32 → (p : Option ℕ) → IsTaken ids p → IfSome p IsLinkable
+linkable ids few None taken = tt
+linkable ids few (Some s) taken = let inside = inside_of ids s taken in omega arith
+
 -- the same, for a write through a link
 module _ (w v : Slotted) (is : w ≡ v) (sound : AreSound w.ids w.chunks) (at : Link) (reaches : Leads v (Some at)) where
   pub led : id_at w.ids at.slot ≡ Some at.chunk_id
@@ -180,6 +189,37 @@ module _ (w v : Slotted) (is : w ≡ v) (sound : AreSound w.ids w.chunks) (at : 
         (write_changes w.ids w.chunks (set w.chunks at.slot (Some m)) sound at.chunk_id at.slot reached n m (sym was_there)
         (get_or-set_same w.chunks at.slot (Some m) None within) (λ t ne. get_or-set_other w.chunks at.slot t (Some m) None ne) change makes)
 
+  -- a chunk stands where it leads to
+  pub stands : (n : LinkedChunk) × (Some n ≡ get_or w.chunks at.slot None)
+  stands = let there = chunk_there w.ids w.chunks sound at.chunk_id at.slot led in (there.0, sym there.1)
+
+  pub some_there : IsSome (get_or w.chunks at.slot None)
+  some_there = subst (λ (o : Option LinkedChunk). IsSome o) stands.1 refl
+
+  pub there_and : (P : Chunk → Type 0) → IsSomeAnd (held_at v at.chunk_id) (λ n. P n.chunk) → IsSomeAnd (get_or w.chunks at.slot None) (λ n. P n.chunk)
+  there_and P h = subst (λ (o : Option LinkedChunk). IsSomeAnd o (λ n. P n.chunk)) stands.1 (read_and stands.0 stands.1 (λ n. P n.chunk) h)
+
+  -- links that lead right can be stored
+  pub storable : (link : Option Link) → Leads v link → IfSome (link_slot link) IsLinkable
+  storable link leads = linkable w.ids sound.few (link_slot link) (given link leads)
+
+  -- the chunk there is changed
+  module _ (new : List (Option LinkedChunk)) (change : LinkedChunk → LinkedChunk) (written_is : new ≡ set w.chunks at.slot (option_map change (get_or w.chunks at.slot None))) where
+    one_changed : new ≡ set w.chunks at.slot (Some (change stands.0))
+    one_changed = written_is ∙ ap (λ (o : Option LinkedChunk). set w.chunks at.slot (option_map change o)) (sym stands.1)
+
+    pub changed_sound : ((n : LinkedChunk) → ((change n).chunk).chunk_id ≡ (n.chunk).chunk_id)
+        → ((n : LinkedChunk) → IsTaken w.ids n.prev → IsTaken w.ids (change n).prev) → ((n : LinkedChunk) → IsTaken w.ids n.next → IsTaken w.ids (change n).next) → AreSound w.ids new
+    changed_sound same prev next =
+        subst (λ (row : List (Option LinkedChunk)). AreSound w.ids row) (sym one_changed)
+        (set_sound stands.0 stands.1 (change stands.0) (same stands.0) (prev stands.0 (prev_kept stands.0 stands.1)) (next stands.0 (next_kept stands.0 stands.1)))
+
+    pub changed_changes : (change_node : Node → Node) → ((n : LinkedChunk) → node_value w.ids (change n) ≡ change_node (node_value w.ids n))
+        → ChangesAt at.chunk_id change_node (held_at v) (λ q. option_map (node_value w.ids) (stored_in new (slot_of w.ids q)))
+    changed_changes change_node makes =
+        subst (λ (row : List (Option LinkedChunk)). ChangesAt at.chunk_id change_node (held_at v) (λ q. option_map (node_value w.ids) (stored_in row (slot_of w.ids q)))) (sym one_changed)
+        (set_changes stands.0 stands.1 (change stands.0) change_node (makes stands.0))
+
 -- ---- there are more slots
 more_taken : (ids : List (Option ℕ)) (more : ℕ) (p : Option ℕ) → number_at (ids ++ replicate more None) p ≡ number_at ids p
 more_taken ids more None = refl
@@ -198,7 +238,7 @@ same_values ids now None same = refl
 same_values ids now (Some n) same = ap (λ (y : Node). Some y) (same n refl)
 
 module _ (ids : List (Option ℕ)) (chunks : List (Option LinkedChunk)) (more : ℕ) where
-  pub more_sound : AreSound ids chunks → length (ids ++ replicate more None) ≤ 2 ^ 32 → AreSound (ids ++ replicate more None) chunks
+  pub more_sound : AreSound ids chunks → length (ids ++ replicate more None) < 2 ^ 32 → AreSound (ids ++ replicate more None) chunks
   more_sound sound few =
       record {
         numbered = λ s. get_more ids more s ∙ sound.numbered s;
@@ -405,11 +445,11 @@ module _ (ids ids2 : List (Option ℕ)) (old new : List (Option LinkedChunk)) (s
       }
 
 -- ---- the slots beside a chunk that is held
-pub links_lead : (w v : Slotted) → w ≡ v → AreSound w.ids w.chunks → (s : ℕ) (o : Option (Bor LinkedChunk)) → option_copied o ≡ get_or w.chunks s None
-    → IfSome o (λ n. IsTaken v.ids n.now.prev × IsTaken v.ids n.now.next)
+pub links_lead : (w v : Slotted) → w ≡ v → AreSound w.ids w.chunks → (s : ℕ) (o : Option LinkedView) → option_map linked_of o ≡ get_or w.chunks s None
+    → IfSome o (λ n. IsTaken v.ids n.prev × IsTaken v.ids n.next)
 links_lead w v is sound s None e = tt
 links_lead w v is sound s (Some r) e =
-    subst (λ (u : Slotted). IsTaken u.ids r.now.prev × IsTaken u.ids r.now.next) is (sound.prev s r.now (sym e), sound.next s r.now (sym e))
+    subst (λ (u : Slotted). IsTaken u.ids r.prev × IsTaken u.ids r.next) is (sound.prev s (linked_of r) (sym e), sound.next s (linked_of r) (sym e))
 
 -- a new chunk, with the numbers of the ones beside it
 pub value_of_new : (ids : List (Option ℕ)) (n : LinkedChunk) (c : Chunk) (p q prev next : Option ℕ) → n.chunk ≡ c → (n.prev ≡ p) × (n.next ≡ q) → number_at ids p ≡ prev → number_at ids q ≡ next

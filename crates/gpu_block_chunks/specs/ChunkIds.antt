@@ -59,7 +59,7 @@ pub record AreChains (heads : List (Option ℕ)) (entries : List (Option Entry))
   pub linked : AreLinked (ids_in entries) (length heads) (link_at heads entries)
   pub distinct : (s t k : ℕ) → id_at (ids_in entries) s ≡ Some k → id_at (ids_in entries) t ≡ Some k → s ≡ t
   pub enough : length entries ≤ length heads
-  pub few : length entries ≤ 2 ^ 32
+  pub few : length entries < 2 ^ 32
 
 -- the slot has a greater id
 abbrev pub IsAbove : List (Option ℕ) → ℕ → ℕ → Type 0

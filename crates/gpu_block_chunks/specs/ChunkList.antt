@@ -3,6 +3,11 @@ use Rattle.std.specs.Prelude.{◌≡◌, ◌≢◌, ℕ, ◌+◌, ◌-◌, ◌<�
 use Rattle.gpu_values.specs.declared.allocation_type.AllocationType.{AllocationType}
 use Rattle.gpu_values.specs.declared.allocation_type.AllocationType.TheVariants.{Free, Linear, NonLinear}
 use Rattle.gpu_block_chunks.specs.declared.chunk.Chunk.{Chunk}
+use Rattle.gpu_block_chunks.specs.declared.chunk.ChunkView.{ChunkView}
+
+-- the chunk that a view shows
+abbrev pub chunk_of : ChunkView → Chunk
+chunk_of v = record { start = v.start; size = v.size; offset = v.offset; kind = v.kind; chunk_id = v.chunk_id; name = (v.name).now }
 
 abbrev pub IsFree : AllocationType → Type 0
 IsFree Free = Unit {0}

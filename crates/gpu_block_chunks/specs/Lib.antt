@@ -2,7 +2,9 @@ pub mod Name
 pub mod ChunkList
 pub mod Chain
 pub mod Slots
+pub mod SlotLink
 pub mod FreeSlots
+pub mod EntryCell
 pub mod ChunkIds
 pub mod Nodes
 pub use Rattle.gpu_cost.specs.Cost

@@ -1,5 +1,5 @@
 -- A chain's chunks in slots, the number in each slot, and links from a chunk to the slots of the ones beside it.
-use Rattle.std.specs.Prelude.{◌≡◌, ◌≢◌, ℕ, ◌^◌, ◌≤◌, List, Option, Some, None, IfSome, IsSome, length, slice_index_or}
+use Rattle.std.specs.Prelude.{◌≡◌, ◌≢◌, ℕ, ◌^◌, ◌<◌, ◌≤◌, List, Option, Some, None, IfSome, IsSome, length, slice_index_or}
 use Rattle.std.specs.Option.{option_map}
 use Rattle.gpu_block_chunks.specs.declared.chain.link.Link.{Link}
 use Rattle.gpu_block_chunks.specs.declared.chain.link.LinkedChunk.{LinkedChunk}
@@ -79,7 +79,7 @@ IsAlone k f = (q : ℕ) (n : Node) → q ≢ k → f q ≡ Some n → (n.prev �
 pub record AreSound (ids : List (Option ℕ)) (chunks : List (Option LinkedChunk)) : Type 0 where
   pub numbered : (s : ℕ) → id_at ids s ≡ option_map (λ n. (n.chunk).chunk_id) (slice_index_or chunks s None)
   pub enough : length chunks ≤ length ids
-  pub few : length ids ≤ 2 ^ 32
+  pub few : length ids < 2 ^ 32
   pub distinct : (s t k : ℕ) → id_at ids s ≡ Some k → id_at ids t ≡ Some k → s ≡ t
   pub prev : (s : ℕ) (n : LinkedChunk) → slice_index_or chunks s None ≡ Some n → IsTaken ids n.prev
   pub next : (s : ℕ) (n : LinkedChunk) → slice_index_or chunks s None ≡ Some n → IsTaken ids n.next

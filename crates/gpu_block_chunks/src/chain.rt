@@ -1,23 +1,26 @@
 //! The chunks of a block, in slots that chains of numbers find, each linked to the slots of the ones beside it.
 
 ghost use Rattle.std.specs.Prelude.{◌≡◌, ◌+◌, ◌-◌, ◌^◌, ◌<◌, ◌≤◌, is_some, if◌then◌else◌, IfSome, IfOk, OnOk, IsOk, MatchOption, Some, None};
-ghost use Rattle.std.specs.Option.{option_copied, option_map};
+ghost use Rattle.std.specs.Option.{option_map};
 ghost use Rattle.gpu_cost.specs.Cost.{LooksUp, LooksUpBetween};
+ghost use Rattle.gpu_block_chunks.specs.Slots.{linked_of};
 ghost use Rattle.gpu_block_chunks.specs.Nodes.{held_at, node_value, link_chunk_id, IsTaken, Reaches};
-ghost use Rattle.gpu_block_chunks.specs.ChunkList.{Covers, AreDistinct};
+ghost use Rattle.gpu_block_chunks.specs.ChunkList.{Covers, AreDistinct, chunk_of};
 ghost use Rattle.gpu_block_chunks.specs.Chain.{HasChunkId, HasNoChunkId, HasNoPiece, ReleasesPiece, IsSplit, IsFilled, from_chunk_id, beside, beside_of, around_of, first_after, IsChunkAt, IsFresh, IsLonger};
 
 mod chunk_ids;
+mod entry_cell;
 mod link;
 mod node;
 mod nodes;
+mod slot_link;
 mod slots;
 
-use crate::chunk::{Chunk, is_free};
+use crate::chunk::{ChunkView, is_free};
 use crate::name::Name;
 use gpu_cost::Cost;
 use gpu_values::AllocationType;
-use link::{Link, LinkedChunk, chunk_id_of};
+use link::{Link, LinkedChunk, LinkedView, chunk_id_of};
 use node::{cut_front, ends_of, join_left, join_right, link_at, linked_at, set_next_of, set_use};
 use nodes::Nodes;
 use std::alloc::{AllocError, Global};
@@ -66,19 +69,19 @@ impl Model for Chain {
 }
 
 /// The one way to read a chunk by its number.
-fn node_at<'a>(nodes: &'a Nodes, chunk_id: u64, cost: &mut Cost) -> Option<&'a LinkedChunk>
-    ensures value { option_map (node_value nodes.now.ids) (option_copied result)
+fn node_at<'a>(nodes: &'a Nodes, chunk_id: u64, cost: &mut Cost) -> Option<LinkedView<'a>>
+    ensures value { option_map (node_value nodes.now.ids) (option_map linked_of result)
         ≡ held_at nodes.now chunk_id }
-    ensures links { IfSome result (λ n. IsTaken nodes.now.ids n.now.prev
-        × IsTaken nodes.now.ids n.now.next) }
+    ensures links { IfSome result (λ n. IsTaken nodes.now.ids n.prev
+        × IsTaken nodes.now.ids n.next) }
     ensures counted { LooksUp 1 cost.old cost.new }
 {
     cost.look_up();
     nodes.get(chunk_id)
 }
 
-fn short(chunk: &Chunk) -> Neighbour
-    ensures { result ≡ beside chunk.now }
+fn short(chunk: &ChunkView<'_>) -> Neighbour
+    ensures { result ≡ beside (chunk_of chunk.now) }
 {
     Neighbour {
         start: chunk.start,
@@ -172,15 +175,15 @@ impl Chain {
     }
 
     /// The chunk of that number, and the number of the next one.
-    pub fn chunk(&self, chunk_id: u64, cost: &mut Cost) -> Option<(&Chunk, Option<u64>)>
+    pub fn chunk(&self, chunk_id: u64, cost: &mut Cost) -> Option<(ChunkView<'_>, Option<u64>)>
         ensures value { MatchOption result (HasNoChunkId self.now.chunks chunk_id)
-            (λ p. IsChunkAt self.now.chunks chunk_id p.0.now p.1) }
+            (λ p. IsChunkAt self.now.chunks chunk_id (chunk_of p.0) p.1) }
         ensures counted { LooksUp 1 cost.old cost.new }
     {
         // a read, so that the proof has the invariant
         let _size = self.size;
         let node = node_at(&self.nodes, chunk_id, cost)?;
-        Some((&node.chunk, chunk_id_of(self.nodes.link_in(node.next))))
+        Some((node.chunk, chunk_id_of(self.nodes.link_in(node.next))))
     }
 
     /// Makes room for that many more chunks, where there isn't room enough. A refusal changes no chunk.

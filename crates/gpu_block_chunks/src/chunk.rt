@@ -1,6 +1,6 @@
 //! A chunk of a block: a piece with its padding, or a gap.
 
-ghost use Rattle.std.specs.Prelude.{IsTrue, ◌↔◌};
+ghost use Rattle.std.specs.Prelude.{◌≡◌, IsTrue, ◌↔◌};
 
 use crate::name::Name;
 use gpu_values::AllocationType;
@@ -17,7 +17,36 @@ pub struct Chunk {
     pub name: Name,
 }
 
-ghost use Rattle.gpu_block_chunks.specs.ChunkList.{IsFree};
+/// What is read of a chunk: its numbers, and its name lent.
+#[derive(Clone, Copy)]
+pub struct ChunkView<'a> {
+    pub start: u64,
+    pub size: u64,
+    pub kind: AllocationType,
+    pub chunk_id: u64,
+    /// Where the piece begins: what lies before it in the chunk is padding.
+    pub offset: u64,
+    pub name: &'a Name,
+}
+
+ghost use Rattle.gpu_block_chunks.specs.ChunkList.{IsFree, chunk_of};
+
+impl Chunk {
+    /// What is read of it.
+    #[inline(always)]
+    pub fn view(&self) -> ChunkView<'_>
+        ensures { chunk_of result ≡ self.now }
+    {
+        ChunkView {
+            start: self.start,
+            size: self.size,
+            kind: self.kind,
+            chunk_id: self.chunk_id,
+            offset: self.offset,
+            name: &self.name,
+        }
+    }
+}
 
 /// Whether a chunk of this kind is a gap.
 pub fn is_free(kind: AllocationType) -> bool

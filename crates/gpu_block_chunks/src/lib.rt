@@ -7,6 +7,6 @@ mod name;
 mod walk;
 
 pub use chain::{Chain, Neighbour, Neighbours};
-pub use chunk::{Chunk, is_free};
+pub use chunk::{Chunk, ChunkView, is_free};
 pub use name::Name;
 pub use walk::Walk;

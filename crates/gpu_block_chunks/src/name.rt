@@ -1,11 +1,11 @@
-//! The name of a chunk: a short one lies in the chunk, a longer one in memory of its own.
+//! The name of a chunk: a short one lies in the chunk's slot, a longer one in memory of its own.
 
 ghost use Rattle.std.specs.Prelude.{◌≡◌, ◌≤◌, ◌<◌, [], length, IfOk, IsOk, MatchOption};
 
 use std::alloc::{AllocError, Global};
 use std::marker::Model;
 
-/// A name of at most so many bytes lies in the chunk.
+/// A name of at most so many bytes lies in the slot.
 const SHORT: usize = 30;
 
 /// A short name: the first bytes of an array.

@@ -2,10 +2,11 @@
 
 ghost use Rattle.std.specs.Prelude.{is_some, if◌then◌else◌, ◌≡◌, ◌∷◌, ◌++◌, [], Some, None, MatchOption};
 ghost use Rattle.gpu_block_chunks.specs.Chain.{walked};
+ghost use Rattle.gpu_block_chunks.specs.ChunkList.{chunk_of};
 ghost use Rattle.gpu_cost.specs.Cost.{LooksUpBetween};
 
 use crate::chain::Chain;
-use crate::chunk::Chunk;
+use crate::chunk::{Chunk, ChunkView};
 use gpu_cost::Cost;
 use std::marker::Model;
 
@@ -52,15 +53,15 @@ impl<'a> Walk<'a> {
 
     /// The next chunk. It counts as looked up, also where it stands in a list.
     #[tactic(auto, using(crate::proofs::Listing::from_none))]
-    pub fn next(&mut self, cost: &mut Cost) -> Option<&'a Chunk>
+    pub fn next(&mut self, cost: &mut Cost) -> Option<ChunkView<'a>>
         ensures chunk { MatchOption result ((self.old ≡ []) × (self.new ≡ []))
-            (λ c. self.old ≡ c.now ∷ self.new) }
+            (λ c. self.old ≡ chunk_of c ∷ self.new) }
         ensures counted { LooksUpBetween (if is_some result then 1 else 0) 1 cost.old cost.new }
     {
         if let Some((chunk, rest)) = self.listed.split_first() {
             cost.look_up();
             self.listed = rest;
-            return Some(chunk);
+            return Some(chunk.view());
         }
         let chain = self.chain?;
         let at = self.at?;

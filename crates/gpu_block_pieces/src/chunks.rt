@@ -3,7 +3,7 @@
 ghost use Rattle.std.specs.Prelude.{◌≡◌, ◌≢◌, ℕ, ◌+◌, ◌^◌, ◌<◌, ◌≤◌, [], IfOk, OnOk, OnErr, MatchOption, IsTrue, ◌↔◌};
 ghost use Rattle.std.specs.List.{list_any};
 ghost use Rattle.gpu_cost.specs.Cost.{LooksUp, LooksUpBetween, Tests};
-ghost use Rattle.gpu_block_chunks.specs.ChunkList.{IsFree};
+ghost use Rattle.gpu_block_chunks.specs.ChunkList.{IsFree, chunk_of};
 ghost use Rattle.gpu_block_pieces.specs.Chunks.{IsTaken, IsNamedAt, HoldsChunkId, extents_of, is_gap_by};
 ghost use Rattle.gpu_block_chunks.specs.Chain.{IsFresh, HasNoChunkId, StandsAt};
 ghost use Rattle.gpu_block_pieces.specs.Indexed.{HasSame, gaps_between, ArePlaced, IsChosen, chosen_at, IsFreed, IsPieceOf, IsLongestOf};
@@ -11,7 +11,7 @@ ghost use Rattle.gpu_block_pieces.specs.Indexed.{HasSame, gaps_between, ArePlace
 use crate::place::Wanted;
 use crate::search::Found;
 use crate::update::{allocate_front, allocate_whole, release};
-use gpu_block_chunks::{Chain, Chunk, Name, Walk, is_free};
+use gpu_block_chunks::{Chain, ChunkView, Name, Walk, is_free};
 use gpu_block_gaps::{Gap, GapIndex};
 use gpu_cost::Cost;
 use gpu_values::AllocationType;
@@ -163,10 +163,10 @@ impl Chunks {
     }
 
     /// The live piece of that number.
-    pub fn piece(&self, chunk_id: u64, cost: &mut Cost) -> Option<&Chunk>
+    pub fn piece(&self, chunk_id: u64, cost: &mut Cost) -> Option<ChunkView<'_>>
         ensures counted { LooksUp 1 cost.old cost.new }
         ensures piece { MatchOption result ((k : ℕ) → HoldsChunkId self.now.items chunk_id k → ⊥)
-            (λ c. (IsFree c.now.kind → ⊥) × StandsAt self.now.items chunk_id c.now) }
+            (λ c. (IsFree c.kind → ⊥) × StandsAt self.now.items chunk_id (chunk_of c)) }
     {
         // a read, so that the proof has the invariant
         let _live = self.live;

@@ -4,11 +4,12 @@ ghost use Rattle.std.specs.Prelude.{◌≡◌, Some, ◌∷◌, [], MatchOption,
 ghost use Rattle.gpu_values.specs.declared.error.AllocationError.TheVariants.{HostOutOfMemory};
 ghost use Rattle.std.specs.Fmt.{DisplaysOnOk};
 ghost use Rattle.std.specs.Iterator.{YieldsFirst, item_count};
+ghost use Rattle.gpu_block_chunks.specs.ChunkList.{chunk_of};
 ghost use Rattle.gpu_block_pieces.specs.Chunks.{extent, extents_of};
 ghost use Rattle.gpu_block_pieces.specs.Leak.{leak_text, block_lines, piece_text, chunk_text, dedicated_text, chunk_id_line, size_line, start_line, kind_line, name_line, kind_name};
 
 use crate::pieces::first_piece;
-use gpu_block_chunks::{Chunk, Walk};
+use gpu_block_chunks::{ChunkView, Walk};
 use gpu_cost::Cost;
 use gpu_values::{AllocationType, Result};
 use std::alloc::Global;
@@ -21,16 +22,17 @@ pub struct Leak<'a> {
     memory_type: usize,
     memory_block: usize,
     shared: bool,
-    chunk: &'a Chunk,
+    chunk: ChunkView<'a>,
 }
 
 impl<'a> Model for Leak<'a> {
+    ghost use Rattle.gpu_block_chunks.specs.ChunkList.{chunk_of};
     ghost use Rattle.gpu_block_pieces.specs.Chunks.{extent};
     ghost use Rattle.gpu_block_pieces.specs.Leak.{LeakOf, leak_of};
 
     ghost Value = { LeakOf };
 
-    ghost view = { λ l. leak_of l.memory_type l.memory_block l.shared (extent l.chunk.now) };
+    ghost view = { λ l. leak_of l.memory_type l.memory_block l.shared (extent (chunk_of l.chunk)) };
 }
 
 /// The live pieces of a block in order of offset. It takes no memory.
@@ -104,49 +106,49 @@ fn kind_name(kind: AllocationType) -> &'static str
     }
 }
 
-fn write_chunk_id<W: fmt::Write>(chunk: &Chunk, f: &mut fmt::Formatter<W>) -> fmt::Result
-    ensures { DisplaysOnOk W.write_str_gives f.old result (Some (chunk_id_line (extent chunk.now)))
-        f.new }
+fn write_chunk_id<W: fmt::Write>(chunk: &ChunkView<'_>, f: &mut fmt::Formatter<W>) -> fmt::Result
+    ensures { DisplaysOnOk W.write_str_gives f.old result
+        (Some (chunk_id_line (extent (chunk_of chunk.now)))) f.new }
 {
     let chunk_id = chunk.chunk_id;
     write!(f, "    chunk: {{\n        chunk_id: {chunk_id},\n")
 }
 
-fn write_size<W: fmt::Write>(chunk: &Chunk, f: &mut fmt::Formatter<W>) -> fmt::Result
-    ensures { DisplaysOnOk W.write_str_gives f.old result (Some (size_line (extent chunk.now)))
-        f.new }
+fn write_size<W: fmt::Write>(chunk: &ChunkView<'_>, f: &mut fmt::Formatter<W>) -> fmt::Result
+    ensures { DisplaysOnOk W.write_str_gives f.old result
+        (Some (size_line (extent (chunk_of chunk.now)))) f.new }
 {
     let size = chunk.size;
     write!(f, "        size: 0x{size:x},\n")
 }
 
-fn write_start<W: fmt::Write>(chunk: &Chunk, f: &mut fmt::Formatter<W>) -> fmt::Result
-    ensures { DisplaysOnOk W.write_str_gives f.old result (Some (start_line (extent chunk.now)))
-        f.new }
+fn write_start<W: fmt::Write>(chunk: &ChunkView<'_>, f: &mut fmt::Formatter<W>) -> fmt::Result
+    ensures { DisplaysOnOk W.write_str_gives f.old result
+        (Some (start_line (extent (chunk_of chunk.now)))) f.new }
 {
     let start = chunk.start;
     write!(f, "        offset: 0x{start:x},\n")
 }
 
-fn write_kind<W: fmt::Write>(chunk: &Chunk, f: &mut fmt::Formatter<W>) -> fmt::Result
-    ensures { DisplaysOnOk W.write_str_gives f.old result (Some (kind_line (extent chunk.now)))
-        f.new }
+fn write_kind<W: fmt::Write>(chunk: &ChunkView<'_>, f: &mut fmt::Formatter<W>) -> fmt::Result
+    ensures { DisplaysOnOk W.write_str_gives f.old result
+        (Some (kind_line (extent (chunk_of chunk.now)))) f.new }
 {
     let kind = kind_name(chunk.kind);
     write!(f, "        allocation_type: {kind},\n")
 }
 
-fn write_name<W: fmt::Write>(chunk: &Chunk, f: &mut fmt::Formatter<W>) -> fmt::Result
-    ensures { DisplaysOnOk W.write_str_gives f.old result (Some (name_line (extent chunk.now)))
-        f.new }
+fn write_name<W: fmt::Write>(chunk: &ChunkView<'_>, f: &mut fmt::Formatter<W>) -> fmt::Result
+    ensures { DisplaysOnOk W.write_str_gives f.old result
+        (Some (name_line (extent (chunk_of chunk.now)))) f.new }
 {
     let name = chunk.name.as_str();
     write!(f, "        name: {name}\n    }}\n")
 }
 
-fn write_chunk<W: fmt::Write>(chunk: &Chunk, f: &mut fmt::Formatter<W>) -> fmt::Result
-    ensures { DisplaysOnOk W.write_str_gives f.old result (Some (chunk_text (extent chunk.now)))
-        f.new }
+fn write_chunk<W: fmt::Write>(chunk: &ChunkView<'_>, f: &mut fmt::Formatter<W>) -> fmt::Result
+    ensures { DisplaysOnOk W.write_str_gives f.old result
+        (Some (chunk_text (extent (chunk_of chunk.now)))) f.new }
 {
     write_chunk_id(chunk, f)?;
     write_size(chunk, f)?;
@@ -155,18 +157,22 @@ fn write_chunk<W: fmt::Write>(chunk: &Chunk, f: &mut fmt::Formatter<W>) -> fmt::
     write_name(chunk, f)
 }
 
-fn write_dedicated<W: fmt::Write>(chunk: &Chunk, f: &mut fmt::Formatter<W>) -> fmt::Result
-    ensures { DisplaysOnOk W.write_str_gives f.old result (Some (dedicated_text (extent chunk.now)))
-        f.new }
+fn write_dedicated<W: fmt::Write>(chunk: &ChunkView<'_>, f: &mut fmt::Formatter<W>) -> fmt::Result
+    ensures { DisplaysOnOk W.write_str_gives f.old result
+        (Some (dedicated_text (extent (chunk_of chunk.now)))) f.new }
 {
     f.write_str("    dedicated allocation: {\n")?;
     write_size(chunk, f)?;
     write_name(chunk, f)
 }
 
-fn write_piece<W: fmt::Write>(shared: bool, chunk: &Chunk, f: &mut fmt::Formatter<W>) -> fmt::Result
+fn write_piece<W: fmt::Write>(
+    shared: bool,
+    chunk: &ChunkView<'_>,
+    f: &mut fmt::Formatter<W>,
+) -> fmt::Result
     ensures { DisplaysOnOk W.write_str_gives f.old result
-        (Some (piece_text shared (extent chunk.now))) f.new }
+        (Some (piece_text shared (extent (chunk_of chunk.now)))) f.new }
 {
     if shared {
         write_chunk(chunk, f)
@@ -194,7 +200,7 @@ impl<'a> fmt::Display for Leak<'a> {
 
     fn fmt<W: fmt::Write>(&self, f: &mut fmt::Formatter<W>) -> fmt::Result {
         write_block(self.memory_type, self.memory_block, f)?;
-        write_piece(self.shared, self.chunk, f)?;
+        write_piece(self.shared, &self.chunk, f)?;
         f.write_str("}")
     }
 }

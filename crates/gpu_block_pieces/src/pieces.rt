@@ -2,11 +2,12 @@
 
 ghost use Rattle.std.specs.Prelude.{◌≡◌, ℕ, ◌-◌, ◌+◌, ◌<◌, ◌≤◌, ◌^◌, ◌∷◌, [], MatchOption, IfSome, length, map, max, string_bytes};
 ghost use Rattle.std.specs.Iterator.{YieldsFirst, item_count};
+ghost use Rattle.gpu_block_chunks.specs.ChunkList.{chunk_of};
 ghost use Rattle.gpu_block_pieces.specs.Chunks.{extent, extents_of};
 ghost use Rattle.gpu_block_pieces.specs.FreeList.{extent_bytes};
 ghost use Rattle.gpu_block_pieces.specs.Pieces.{LieBetween, gap_between, gaps_between, longest, IsPlaced, IsRun};
 
-use gpu_block_chunks::{Chunk, Walk, is_free};
+use gpu_block_chunks::{ChunkView, Walk, is_free};
 use gpu_cost::Cost;
 use gpu_values::AllocationType;
 use std::marker::Model;
@@ -14,19 +15,20 @@ use std::marker::Model;
 /// A live piece of a block. Its places are in bytes from the block's start.
 #[derive(Drop)]
 pub struct LivePiece<'a> {
-    chunk: &'a Chunk,
+    chunk: ChunkView<'a>,
 }
 
 impl<'a> Model for LivePiece<'a> {
     ghost use Rattle.gpu_block_pieces.specs.FreeList.{Extent};
+    ghost use Rattle.gpu_block_chunks.specs.ChunkList.{chunk_of};
     ghost use Rattle.gpu_block_pieces.specs.Chunks.{extent};
     ghost use Rattle.gpu_block_pieces.specs.Pieces.{IsPlaced};
 
     ghost Value = { Extent };
 
-    ghost view = { λ p. extent p.chunk.now };
+    ghost view = { λ p. extent (chunk_of p.chunk) };
 
-    ghost invariant = { λ p. IsPlaced p.chunk.now };
+    ghost invariant = { λ p. IsPlaced (chunk_of p.chunk) };
 }
 
 impl<'a> LivePiece<'a> {
@@ -55,7 +57,7 @@ impl<'a> LivePiece<'a> {
     pub fn end(&self) -> u64
         ensures { result ≡ self.now.end }
     {
-        let chunk = self.chunk;
+        let chunk = &self.chunk;
         chunk.size + chunk.start
     }
 
@@ -63,7 +65,7 @@ impl<'a> LivePiece<'a> {
     pub fn size(&self) -> u64
         ensures { result ≡ self.now.end - self.now.offset }
     {
-        let chunk = self.chunk;
+        let chunk = &self.chunk;
         chunk.start + chunk.size - chunk.offset
     }
 
@@ -71,7 +73,7 @@ impl<'a> LivePiece<'a> {
     pub fn padding(&self) -> u64
         ensures { result ≡ self.now.offset - self.now.start }
     {
-        let chunk = self.chunk;
+        let chunk = &self.chunk;
         chunk.offset - chunk.start
     }
 
@@ -121,12 +123,12 @@ impl<'a> Pieces<'a> {
 }
 
 /// The first chunk that isn't free; those behind it are left.
-pub(crate) fn first_piece<'a>(chunks: &mut Walk<'a>, cost: &mut Cost) -> Option<&'a Chunk>
+pub(crate) fn first_piece<'a>(chunks: &mut Walk<'a>, cost: &mut Cost) -> Option<ChunkView<'a>>
     ensures piece { MatchOption result
         ((extents_of chunks.old ≡ []) × (extents_of chunks.new ≡ []))
-        (λ c. extents_of chunks.old ≡ extent c.now ∷ extents_of chunks.new) }
+        (λ c. extents_of chunks.old ≡ extent (chunk_of c) ∷ extents_of chunks.new) }
     ensures run { IsRun chunks.old → IsRun chunks.new }
-    ensures placed { IsRun chunks.old → IfSome result (λ c. IsPlaced c.now) }
+    ensures placed { IsRun chunks.old → IfSome result (λ c. IsPlaced (chunk_of c)) }
 {
     while let Some(chunk) = chunks.next(cost) {
         if !is_free(chunk.kind) {

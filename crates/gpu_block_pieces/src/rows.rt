@@ -1,19 +1,23 @@
 //! The rows of a report, one for each piece.
 
 ghost use Rattle.std.specs.Prelude.{◌≡◌, ℕ, ◌^◌, ◌<◌, [], ◌∷◌, ◌++◌, map, All, IfOk, OnOk};
-ghost use Rattle.gpu_block_chunks.specs.ChunkList.{Covers};
+ghost use Rattle.gpu_block_chunks.specs.ChunkList.{Covers, chunk_of};
 ghost use Rattle.gpu_block_pieces.specs.Chunks.{IsChunk, extents_of};
 ghost use Rattle.gpu_values.specs.Report.{row_of};
 ghost use Rattle.gpu_block_pieces.specs.Rows.{extent_row};
 
-use gpu_block_chunks::{Chunk, Walk, is_free};
+use gpu_block_chunks::{ChunkView, Walk, is_free};
 use gpu_cost::Cost;
 use gpu_values::AllocationReport;
 use std::alloc::{AllocError, Global};
 
-fn row_of(alloc: Global, chunk: &Chunk, size: u64) -> Result<AllocationReport, AllocError>
+fn row_of(alloc: Global, chunk: &ChunkView<'_>, size: u64) -> Result<AllocationReport, AllocError>
     ensures { IfOk result (λ a. row_of a
-        ≡ record { name = chunk.now.name; offset = chunk.now.offset; size = size }) }
+        ≡ record {
+          name = (chunk_of chunk.now).name;
+          offset = chunk.now.offset;
+          size = size;
+        }) }
 {
     Ok(AllocationReport {
         name: String::from_str(alloc, chunk.name.as_str())?,
@@ -45,7 +49,7 @@ pub fn rows_of(
     let mut rows = Vec::new(alloc);
     while let Some(chunk) = chunks.next(cost) {
         if !is_free(chunk.kind) {
-            let row = row_of(alloc, chunk, chunk.start + chunk.size - chunk.offset)?;
+            let row = row_of(alloc, &chunk, chunk.start + chunk.size - chunk.offset)?;
             add(&mut rows, row)?;
         }
     }

@@ -4,7 +4,7 @@ ghost use Rattle.std.specs.Prelude.{◌≡◌};
 ghost use Rattle.gpu_block_chunks.specs.Nodes.{link_chunk_id, link_slot};
 
 use super::Neighbour;
-use crate::chunk::Chunk;
+use crate::chunk::{Chunk, ChunkView};
 use crate::name::Name;
 
 /// Where a chunk is found: its number, and the slot that it stands in.
@@ -14,11 +14,19 @@ pub struct Link {
     pub slot: u32,
 }
 
-/// A chunk, and the slots of the ones beside it. What is read of a neighbour stands together, before the name.
+/// A chunk, and the slots of the ones beside it.
 #[derive(Drop)]
 pub struct LinkedChunk {
     pub prev: Option<u32>,
     pub chunk: Chunk,
+    pub next: Option<u32>,
+}
+
+/// What is read of a chunk in a slot, and the slots of the ones beside it.
+#[derive(Clone, Copy)]
+pub struct LinkedView<'a> {
+    pub prev: Option<u32>,
+    pub chunk: ChunkView<'a>,
     pub next: Option<u32>,
 }
 

@@ -2,11 +2,12 @@
 
 ghost use Rattle.std.specs.Prelude.{◌≡◌, ◌+◌, ◌-◌, ◌^◌, ◌<◌, ◌≤◌, is_some, if◌then◌else◌, IsSome, IsSomeAnd, IfSome, MatchOption, Some, None};
 ghost use Rattle.gpu_cost.specs.Cost.{LooksUp, LooksUpBetween};
+ghost use Rattle.gpu_block_chunks.specs.Slots.{linked_of};
 ghost use Rattle.gpu_block_chunks.specs.Nodes.{held_at, room_of, node_value, link_chunk_id, number_at, IsTaken, Leads, Reaches, KeepsOthers};
 ghost use Rattle.gpu_block_chunks.specs.Chain.{Node, CanJoin, JoinsNext, JoinsRight, JoinsLeft, JoinsUnder, LinkedAt, is_free_kind};
 ghost use Rattle.gpu_block_chunks.specs.Chain.{ChangesAt, ChangesAtOpt, with_next, with_prev, cut_node, joined_node, used_node};
 
-use super::link::{Link, LinkedChunk, slot_of};
+use super::link::{Link, LinkedView, slot_of};
 use super::nodes::Nodes;
 use crate::name::Name;
 use gpu_cost::Cost;
@@ -23,10 +24,12 @@ pub fn link_at(nodes: &Nodes, chunk_id: u64, cost: &mut Cost) -> Option<Link>
 }
 
 /// The one way to read a chunk that a link leads to.
-pub fn linked_at<'a>(nodes: &'a Nodes, at: Link, cost: &mut Cost) -> &'a LinkedChunk
+#[inline(always)]
+pub fn linked_at<'a>(nodes: &'a Nodes, at: Link, cost: &mut Cost) -> LinkedView<'a>
     requires { Reaches nodes.now (Some at) }
-    ensures value { held_at nodes.now at.chunk_id ≡ Some (node_value nodes.now.ids result.now) }
-    ensures links { IsTaken nodes.now.ids result.now.prev × IsTaken nodes.now.ids result.now.next }
+    ensures value { held_at nodes.now at.chunk_id
+        ≡ Some (node_value nodes.now.ids (linked_of result)) }
+    ensures links { IsTaken nodes.now.ids result.prev × IsTaken nodes.now.ids result.next }
     ensures counted { LooksUp 1 cost.old cost.new }
 {
     cost.look_up();
@@ -44,10 +47,7 @@ pub fn set_next(nodes: &mut Nodes, at: Link, next: Option<Link>, cost: &mut Cost
     ensures counted { LooksUp 1 cost.old cost.new }
 {
     cost.look_up();
-    match nodes.chunks.get_mut(at.slot as usize) {
-        Some(linked) => linked.next = slot_of(next),
-        None => unreachable!(),
-    }
+    nodes.chunks.set_next(at.slot as usize, slot_of(next));
 }
 
 /// Links a chunk to another one before it.
@@ -61,10 +61,7 @@ pub fn set_prev(nodes: &mut Nodes, at: Link, prev: Option<Link>, cost: &mut Cost
     ensures counted { LooksUp 1 cost.old cost.new }
 {
     cost.look_up();
-    match nodes.chunks.get_mut(at.slot as usize) {
-        Some(linked) => linked.prev = slot_of(prev),
-        None => unreachable!(),
-    }
+    nodes.chunks.set_prev(at.slot as usize, slot_of(prev));
 }
 
 /// Takes that much off a chunk's front.
@@ -80,17 +77,9 @@ pub fn cut_front(nodes: &mut Nodes, at: Link, taken: u64, prev: Option<Link>, co
     ensures counted { LooksUp 1 cost.old cost.new }
 {
     cost.look_up();
-    match nodes.chunks.get_mut(at.slot as usize) {
-        Some(linked) => {
-            let chunk = &mut linked.chunk;
-            let start = chunk.start + taken;
-            chunk.start = start;
-            chunk.size -= taken;
-            chunk.offset = start;
-            linked.prev = slot_of(prev);
-        }
-        None => unreachable!(),
-    }
+    nodes
+        .chunks
+        .cut_front(at.slot as usize, taken, slot_of(prev));
 }
 
 /// Makes a chunk longer.
@@ -106,13 +95,7 @@ pub fn lengthen(nodes: &mut Nodes, at: Link, more: u64, next: Option<Link>, cost
     ensures counted { LooksUp 1 cost.old cost.new }
 {
     cost.look_up();
-    match nodes.chunks.get_mut(at.slot as usize) {
-        Some(linked) => {
-            linked.chunk.size += more;
-            linked.next = slot_of(next);
-        }
-        None => unreachable!(),
-    }
+    nodes.chunks.lengthen(at.slot as usize, more, slot_of(next));
 }
 
 /// The same for the chunk that a link leads to, if it is one.
@@ -205,14 +188,7 @@ pub fn set_use(
     ensures counted { LooksUp 1 cost.old cost.new }
 {
     cost.look_up();
-    match nodes.chunks.get_mut(at.slot as usize) {
-        Some(linked) => {
-            linked.chunk.offset = offset;
-            linked.chunk.kind = kind;
-            linked.chunk.name = name;
-        }
-        None => unreachable!(),
-    }
+    nodes.chunks.set_use(at.slot as usize, offset, kind, name);
 }
 
 /// Whether the chunk that a link leads to is free.

@@ -1,12 +1,13 @@
 //! The chunks of a chain in slots, which are found by number.
 
 ghost use Rattle.std.specs.Prelude.{◌≡◌, ℕ, ◌+◌, ◌≤◌, ◌<◌, IsSome, IfOk, OnOk, IfSome, MatchOption, Some, None};
-ghost use Rattle.std.specs.Option.{option_copied, option_map};
+ghost use Rattle.std.specs.Option.{option_map};
 ghost use Rattle.gpu_block_chunks.specs.Chain.{SetsAt, IsUnlinked};
+ghost use Rattle.gpu_block_chunks.specs.Slots.{linked_of};
 ghost use Rattle.gpu_block_chunks.specs.Nodes.{held_at, room_of, node_value, link_chunk_id, link_slot, number_at, IsTaken, Leads, Reaches, KeepsOthers, KeepsReached, IsAlone};
 
 use super::chunk_ids::ChunkIds;
-use super::link::{Link, LinkedChunk};
+use super::link::{Link, LinkedChunk, LinkedView};
 use super::slots::Slots;
 use std::alloc::{AllocError, Global};
 use std::marker::Model;
@@ -48,11 +49,11 @@ impl Nodes {
     }
 
     /// The chunk of a number.
-    pub fn get(&self, chunk_id: u64) -> Option<&LinkedChunk>
-        ensures value { option_map (node_value self.now.ids) (option_copied result)
+    pub fn get(&self, chunk_id: u64) -> Option<LinkedView<'_>>
+        ensures value { option_map (node_value self.now.ids) (option_map linked_of result)
             ≡ held_at self.now chunk_id }
-        ensures links { IfSome result (λ n. IsTaken self.now.ids n.now.prev
-            × IsTaken self.now.ids n.now.next) }
+        ensures links { IfSome result (λ n. IsTaken self.now.ids n.prev
+            × IsTaken self.now.ids n.next) }
     {
         let slot = self.ids.find(chunk_id)?;
         self.chunks.get(slot as usize)
@@ -83,18 +84,16 @@ impl Nodes {
     }
 
     /// The chunk that a link leads to.
-    pub fn linked(&self, link: Link) -> &LinkedChunk
+    #[inline(always)]
+    pub fn linked(&self, link: Link) -> LinkedView<'_>
         requires { Reaches self.now (Some link) }
-        ensures value { held_at self.now link.chunk_id ≡ Some (node_value self.now.ids result.now) }
-        ensures links { IsTaken self.now.ids result.now.prev
-            × IsTaken self.now.ids result.now.next }
+        ensures value { held_at self.now link.chunk_id
+            ≡ Some (node_value self.now.ids (linked_of result)) }
+        ensures links { IsTaken self.now.ids result.prev × IsTaken self.now.ids result.next }
     {
         // a read, so that the proof has the invariant
         let _ids = &self.ids;
-        match self.chunks.get(link.slot as usize) {
-            Some(chunk) => chunk,
-            None => unreachable!(),
-        }
+        self.chunks.at(link.slot as usize)
     }
 
     /// A link to the chunk in a slot, if it is one.
@@ -107,13 +106,11 @@ impl Nodes {
         // a read, so that the proof has the invariant
         let _ids = &self.ids;
         let slot = slot?;
-        match self.chunks.get(slot as usize) {
-            Some(linked) => Some(Link {
-                chunk_id: linked.chunk.chunk_id,
-                slot,
-            }),
-            None => unreachable!(),
-        }
+        let linked = self.chunks.at(slot as usize);
+        Some(Link {
+            chunk_id: linked.chunk.chunk_id,
+            slot,
+        })
     }
 
     /// For how many more chunks there is room.
@@ -163,6 +160,6 @@ impl Nodes {
         ensures room { room_of self.old ≤ room_of self.new }
     {
         self.ids.remove(link.chunk_id, link.slot);
-        let _ = self.chunks.remove(link.slot as usize);
+        self.chunks.remove(link.slot as usize);
     }
 }

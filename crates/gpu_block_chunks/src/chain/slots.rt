@@ -1,80 +1,95 @@
-//! Chunks in slots, and the list of the free slots.
+//! Chunks in slots, and the list of the free slots. The names lie apart, so that a look at a chunk reads 48 bytes.
 
-ghost use Rattle.std.specs.Prelude.{◌≡◌, ◌+◌, ◌≤◌, ◌<◌, [], length, IsSome, IfOk, OnOk, Some, None, option_copied};
-ghost use Rattle.std.specs.Option.{option_copied_mut};
-ghost use Rattle.std.specs.Borrow.{Lends, LendsIf, sem};
-ghost use Rattle.gpu_block_chunks.specs.Slots.{chunk_at, taken, with_chunk, ChangesSlot, IsFirst};
-ghost use Rattle.gpu_block_chunks.specs.FreeSlots.{chunk_in};
+ghost use Rattle.std.specs.Prelude.{◌≡◌, ◌+◌, ◌^◌, ◌≤◌, ◌<◌, [], length, IsSome, IsSomeAnd, IfSome, IfOk, OnOk, Some, None};
+ghost use Rattle.std.specs.Option.{option_map};
+ghost use Rattle.gpu_block_chunks.specs.Slots.{chunk_at, taken, changed_at, ChangesSlot, IsFirst};
+ghost use Rattle.gpu_block_chunks.specs.Slots.{linked_of, linked_next, linked_prev, cut_linked, joined_linked, used_linked};
+ghost use Rattle.gpu_block_chunks.specs.SlotLink.{IsLinkable};
+ghost use Rattle.gpu_block_chunks.specs.FreeSlots.{Taken, slot_of};
 
-use super::link::LinkedChunk;
+use super::link::{LinkedChunk, LinkedView};
+use super::slot_link::SlotLink;
+use crate::chunk::ChunkView;
+use crate::name::Name;
+use gpu_values::AllocationType;
 use std::alloc::{AllocError, Global};
 use std::marker::Model;
-use std::mem;
 
 /// By how many slots the room grows at least.
 const LEAST_GROWTH: usize = 4;
 
-/// A slot has a chunk, or it is free and names the next one that is free.
-#[derive(Drop)]
-enum Slot {
-    Taken(LinkedChunk),
-    Free(Option<usize>),
+/// A slot without its name. One that is taken has a chunk; another is free, and its `next` is the next slot that is free.
+#[derive(Clone, Copy)]
+struct Cell {
+    start: u64,
+    size: u64,
+    offset: u64,
+    chunk_id: u64,
+    prev: SlotLink,
+    next: SlotLink,
+    kind: AllocationType,
+    taken: bool,
 }
 
-// All but the name lies in the first 64 of its bytes.
-const _: () = prove!(size_of::<Slot>() == 96);
+// What a look at a chunk reads.
+const _: () = prove!(size_of::<Cell>() == 48);
 
-impl Slot {
-    ghost use Rattle.gpu_block_chunks.specs.contracts.chain.slots.Slot.{the_row};
-    ghost use Rattle.gpu_block_chunks.specs.contracts.chain.link.LinkedChunk as chunk_type;
-
-    fn chunk_mut(&mut self) -> &mut LinkedChunk
-        requires { IsSome (chunk_in self.old) }
-        ensures* lends { sem 𝓛 (Lends the_row chunk_type.the_row self.entry result Slot.Taken) }
-        ensures value { chunk_in self.old ≡ Some result.now }
-    {
-        match self {
-            Slot::Taken(chunk) => chunk,
-            Slot::Free(_) => unreachable!(),
-        }
-    }
+/// The cell of a chunk, and its name.
+fn parts(linked: LinkedChunk) -> (Cell, Name)
+    requires prev { IfSome linked.prev IsLinkable }
+    requires next { IfSome linked.next IsLinkable }
+    ensures { slot_of result.0 result.1 ≡ Taken linked }
+{
+    let LinkedChunk { prev, chunk, next } = linked;
+    let cell = Cell {
+        start: chunk.start,
+        size: chunk.size,
+        offset: chunk.offset,
+        chunk_id: chunk.chunk_id,
+        prev: SlotLink::new(prev),
+        next: SlotLink::new(next),
+        kind: chunk.kind,
+        taken: true,
+    };
+    (cell, chunk.name)
 }
 
-/// Chunks in slots. A chunk keeps its slot until it is taken out; then the slot is the first to be used again.
+/// Chunks in slots. A chunk keeps its slot until it is taken out; then the slot is the first to be used again. The name of a free slot is
+/// empty, so that the memory of a long one is given back.
 #[derive(Drop)]
 pub struct Slots {
-    slots: Vec<Slot>,
-    free: Option<usize>,
+    cells: Vec<Cell>,
+    names: Vec<Name>,
+    free: SlotLink,
     live: usize,
 }
 
 impl Model for Slots {
-    ghost use Rattle.std.specs.Prelude.{◌-◌, map, vec_capacity};
+    ghost use Rattle.std.specs.Prelude.{◌-◌, map, min, vec_capacity};
     ghost use Rattle.gpu_block_chunks.specs.Slots.{Stored};
-    ghost use Rattle.gpu_block_chunks.specs.FreeSlots.{chunk_in, IsSound};
+    ghost use Rattle.gpu_block_chunks.specs.FreeSlots.{chunk_in, slots_of, AreSlots};
 
     ghost Value = { Stored };
 
     ghost view = { λ s. record {
-      slots = map chunk_in s.slots.items;
-      room = vec_capacity s.slots - s.live;
+      slots = map chunk_in (slots_of s.cells.items s.names.items);
+      room = min (vec_capacity s.cells) (vec_capacity s.names) - s.live;
     } };
 
-    ghost invariant = { λ s. IsSound s.slots.items s.live s.free };
+    ghost invariant = { λ s. AreSlots s.cells.items s.names.items s.live s.free };
 }
 
 impl Slots {
-    ghost use Rattle.gpu_block_chunks.specs.contracts.chain.slots.Slots.{the_row};
-    ghost use Rattle.gpu_block_chunks.specs.contracts.chain.link.LinkedChunk as chunk_type;
-
     /// No chunks, and room for that many.
     pub fn with_capacity(alloc: Global, capacity: usize) -> Result<Slots, AllocError>
         ensures empty { IfOk result (λ s. s.slots ≡ []) }
         ensures room { IfOk result (λ s. capacity ≤ s.room) }
     {
+        let names = Vec::with_capacity(alloc, capacity)?;
         Ok(Slots {
-            slots: Vec::with_capacity(alloc, capacity)?,
-            free: None,
+            cells: Vec::with_capacity(alloc, capacity)?,
+            names,
+            free: SlotLink::none(),
             live: 0,
         })
     }
@@ -83,7 +98,7 @@ impl Slots {
     pub fn room(&self) -> usize
         ensures { result ≡ self.now.room }
     {
-        self.slots.capacity() - self.live
+        self.cells.capacity().min(self.names.capacity()) - self.live
     }
 
     /// How many chunks there are.
@@ -97,11 +112,11 @@ impl Slots {
     pub fn capacity(&self) -> usize
         ensures { result ≡ taken self.now + self.now.room }
     {
-        self.slots.capacity()
+        self.cells.capacity().min(self.names.capacity())
     }
 
-    /// Makes room for that many more chunks. A refusal changes no slot. Slots are long, so their room grows by a quarter, and not to the
-    /// double.
+    /// Makes room for that many more chunks, and for their names. A refusal changes no slot. Slots are long, so their room grows by a
+    /// thirty-second, and not to the double.
     pub fn reserve(&mut self, more: usize) -> Result<(), AllocError>
         ensures same { self.new.slots ≡ self.old.slots }
         ensures room { OnOk result (more ≤ self.new.room) }
@@ -110,82 +125,145 @@ impl Slots {
         if more <= self.room() {
             return Ok(());
         }
-        let free = self.slots.len() - self.live;
-        let more = more.max(self.live / 4).max(LEAST_GROWTH);
-        self.slots.reserve_exact(more - free)
+        let free = self.cells.len() - self.live;
+        let more = more.max(self.live / 32).max(LEAST_GROWTH);
+        self.names.reserve_exact(more - free)?;
+        self.cells.reserve_exact(more - free)
     }
 
     /// The chunk in a slot.
-    pub fn get(&self, slot: usize) -> Option<&LinkedChunk>
-        ensures { option_copied result ≡ chunk_at self.now slot }
+    #[inline(always)]
+    pub fn get(&self, slot: usize) -> Option<LinkedView<'_>>
+        ensures { option_map linked_of result ≡ chunk_at self.now slot }
     {
-        match self.slots.get(slot) {
-            Some(Slot::Taken(chunk)) => Some(chunk),
-            _ => None,
+        if slot >= self.cells.len() || !self.cells[slot].taken {
+            return None;
+        }
+        Some(self.at(slot))
+    }
+
+    /// The chunk in a slot that is taken.
+    #[inline(always)]
+    pub fn at(&self, slot: usize) -> LinkedView<'_>
+        requires { IsSome (chunk_at self.now slot) }
+        ensures { chunk_at self.now slot ≡ Some (linked_of result) }
+    {
+        let cell = &self.cells[slot];
+        let chunk = ChunkView {
+            start: cell.start,
+            size: cell.size,
+            kind: cell.kind,
+            chunk_id: cell.chunk_id,
+            offset: cell.offset,
+            name: &self.names[slot],
+        };
+        LinkedView {
+            prev: cell.prev.slot(),
+            chunk,
+            next: cell.next.slot(),
         }
     }
 
-    /// The chunk in a slot, lent.
-    pub fn get_mut(&mut self, slot: usize) -> Option<&mut LinkedChunk>
-        ensures* writes_back { sem 𝓛 (LendsIf the_row chunk_type.the_row self.entry result
-            (with_chunk self.entry.now slot) self.entry.now) }
-        ensures value { option_copied_mut result ≡ chunk_at self.old slot }
+    /// Links the chunk in a slot to another next one.
+    pub fn set_next(&mut self, slot: usize, next: Option<u32>)
+        requires there { IsSome (chunk_at self.old slot) }
+        requires next { IfSome next IsLinkable }
+        ensures changes { self.new ≡ changed_at self.old slot (linked_next next) }
+        ensures count { taken self.new ≡ taken self.old }
     {
-        if self.get(slot).is_some() {
-            Some(self.chunk_mut(slot))
-        } else {
-            None
-        }
+        self.cells[slot].next = SlotLink::new(next);
     }
 
-    fn chunk_mut(&mut self, slot: usize) -> &mut LinkedChunk
+    /// Links the chunk in a slot to another one before it.
+    pub fn set_prev(&mut self, slot: usize, prev: Option<u32>)
+        requires there { IsSome (chunk_at self.old slot) }
+        requires prev { IfSome prev IsLinkable }
+        ensures changes { self.new ≡ changed_at self.old slot (linked_prev prev) }
+        ensures count { taken self.new ≡ taken self.old }
+    {
+        self.cells[slot].prev = SlotLink::new(prev);
+    }
+
+    /// Takes that much off the front of the chunk in a slot.
+    pub fn cut_front(&mut self, slot: usize, cut: u64, prev: Option<u32>)
+        requires longer { IsSomeAnd (chunk_at self.old slot)
+            (λ n. (cut < (n.chunk).size) × ((n.chunk).start + (n.chunk).size < 2 ^ 64)) }
+        requires prev { IfSome prev IsLinkable }
+        ensures changes { self.new ≡ changed_at self.old slot (cut_linked cut prev) }
+        ensures count { taken self.new ≡ taken self.old }
+    {
+        let cell = &mut self.cells[slot];
+        let start = cell.start + cut;
+        cell.start = start;
+        cell.size -= cut;
+        cell.offset = start;
+        cell.prev = SlotLink::new(prev);
+    }
+
+    /// Makes the chunk in a slot longer.
+    pub fn lengthen(&mut self, slot: usize, more: u64, next: Option<u32>)
+        requires fits { IsSomeAnd (chunk_at self.old slot) (λ n. (n.chunk).size + more < 2 ^ 64) }
+        requires next { IfSome next IsLinkable }
+        ensures changes { self.new ≡ changed_at self.old slot (joined_linked more next) }
+        ensures count { taken self.new ≡ taken self.old }
+    {
+        let cell = &mut self.cells[slot];
+        cell.size += more;
+        cell.next = SlotLink::new(next);
+    }
+
+    /// Gives the chunk in a slot another use.
+    pub fn set_use(&mut self, slot: usize, offset: u64, kind: AllocationType, name: Name)
         requires { IsSome (chunk_at self.old slot) }
-        ensures* writes_back { sem 𝓛 (Lends the_row chunk_type.the_row self.entry result
-            (with_chunk self.entry.now slot)) }
-        ensures value { chunk_at self.old slot ≡ Some result.now }
+        ensures changes { self.new ≡ changed_at self.old slot (used_linked offset kind name) }
+        ensures count { taken self.new ≡ taken self.old }
     {
-        self.slots[slot].chunk_mut()
+        let cell = &mut self.cells[slot];
+        cell.offset = offset;
+        cell.kind = kind;
+        self.names[slot] = name;
     }
 
     /// Puts a chunk into the first free slot, or into a new one. There is room for it, so no memory is taken.
     pub fn insert_reserved(&mut self, chunk: LinkedChunk) -> usize
-        requires { 0 < self.old.room }
+        requires room { 0 < self.old.room }
+        requires few { taken self.old + 1 < 2 ^ 32 }
+        requires prev { IfSome chunk.prev IsLinkable }
+        requires next { IfSome chunk.next IsLinkable }
         ensures was_free { chunk_at self.old result ≡ None }
         ensures changes { ChangesSlot self.old self.new result (Some chunk) }
         ensures count { taken self.new ≡ taken self.old + 1 }
         ensures first { IsFirst self.old self.new result }
         ensures room { self.new.room + 1 ≡ self.old.room }
     {
+        let (cell, text) = parts(chunk);
         self.live += 1;
-        let Some(slot) = self.free else {
-            let slot = self.slots.len();
-            self.slots.push_reserved(Slot::Taken(chunk));
+        let Some(slot) = self.free.slot() else {
+            let slot = self.cells.len();
+            self.cells.push_reserved(cell);
+            self.names.push_reserved(text);
             return slot;
         };
-        match mem::replace(&mut self.slots[slot], Slot::Taken(chunk)) {
-            Slot::Free(next) => self.free = next,
-            Slot::Taken(_) => unreachable!(),
-        }
+        let slot = slot as usize;
+        self.free = self.cells[slot].next;
+        self.cells[slot] = cell;
+        self.names[slot] = text;
         slot
     }
 
-    /// Takes a chunk out of its slot, which is the first free one then.
-    pub fn remove(&mut self, slot: usize) -> LinkedChunk
+    /// Takes the chunk out of its slot, which is the first free one then.
+    pub fn remove(&mut self, slot: usize)
         requires { IsSome (chunk_at self.old slot) }
-        ensures value { chunk_at self.old slot ≡ Some result }
         ensures changes { ChangesSlot self.old self.new slot None }
         ensures count { taken self.new + 1 ≡ taken self.old }
         ensures length { length self.new.slots ≡ length self.old.slots }
         ensures room { self.new.room ≡ self.old.room + 1 }
     {
-        let free = Slot::Free(self.free);
-        match mem::replace(&mut self.slots[slot], free) {
-            Slot::Taken(chunk) => {
-                self.live -= 1;
-                self.free = Some(slot);
-                chunk
-            }
-            Slot::Free(_) => unreachable!(),
-        }
+        let cell = &mut self.cells[slot];
+        cell.taken = false;
+        cell.next = self.free;
+        self.names[slot] = Name::empty();
+        self.free = SlotLink::new(Some(slot as u32));
+        self.live -= 1;
     }
 }

@@ -2,6 +2,7 @@ use Rattle.std.proofs.Common.{ap, sym}
 use Rattle.gpu_block_chunks.specs.Chain.{Linked}
 use Rattle.gpu_block_chunks.proofs.Listing.{none_held, chunk_at}
 use Rattle.gpu_block_chunks.specs.Nodes.{held_at, node_value}
+use Rattle.gpu_block_chunks.specs.Slots.{linked_of}
 use Rattle.gpu_block_chunks.proofs.chain.Chain.chunk.Goals as goal
 
 pub returns-in_err-node-clause-value : goal.returns-in_err-node-clause-value
@@ -12,7 +13,7 @@ returns-in_err-node-clause-value c =
 pub returns-clause-value : goal.returns-clause-value
 returns-clause-value c =
     rw (c.chunk_id_of.ensures, c.link_in.ensures.chunk_id) (chunk_at (held_at c.self.inside.nodes) c.self.inside.first c.self.inside.size _ c.args.self.now.chunks c.self.invariant
-    (ap (λ (v : Linked). v.chunks) c.self.view_is) c.args.chunk_id (node_value c.self.inside.nodes.ids c.in_ok-node.node.now) (sym c.in_ok-node.ensures.value))
+    (ap (λ (v : Linked). v.chunks) c.self.view_is) c.args.chunk_id (node_value c.self.inside.nodes.ids (linked_of c.in_ok-node.node)) (sym c.in_ok-node.ensures.value))
 
 pub link_in-requires : goal.link_in-requires
 link_in-requires c = c.in_ok-node.ensures.links.1

@@ -1,14 +1,18 @@
-use Rattle.std.proofs.Common.{refl}
+use Rattle.std.proofs.Common.{refl, ap}
 use Rattle.gpu_block_chunks.specs.Chain.{used_node}
-use Rattle.gpu_block_chunks.proofs.Slots.{set_sound, set_changes, prev_kept, next_kept}
+use Rattle.gpu_block_chunks.specs.Slots.{Stored, used_linked}
+use Rattle.gpu_block_chunks.proofs.Slots.{some_there, changed_sound, changed_changes}
 use Rattle.gpu_block_chunks.proofs.chain.node.set_use.Goals as goal
+
+pub set_use-requires : goal.set_use-requires
+set_use-requires c = some_there _ _ c.nodes.view_is c.nodes.invariant c.args.at c.requires.0
 
 pub invariant_of-nodes : goal.invariant_of-nodes
 invariant_of-nodes c =
-    set_sound _ _ c.nodes.view_is c.nodes.invariant c.args.at c.requires.0 c.in-Some.linked.now c.in-Some.ensures.value _ refl
-    (prev_kept _ _ c.nodes.view_is c.nodes.invariant c.args.at c.requires.0 c.in-Some.linked.now c.in-Some.ensures.value)
-    (next_kept _ _ c.nodes.view_is c.nodes.invariant c.args.at c.requires.0 c.in-Some.linked.now c.in-Some.ensures.value)
+    changed_sound _ _ c.nodes.view_is c.nodes.invariant c.args.at c.requires.0 c.set_use.new.self.slots (used_linked c.args.offset c.args.kind c.args.name)
+    (ap (λ (s : Stored). s.slots) c.set_use.ensures.changes) (λ n. refl) (λ n kept. kept) (λ n kept. kept)
 
 pub returns-clause-changes : goal.returns-clause-changes
 returns-clause-changes c =
-    set_changes _ _ c.nodes.view_is c.nodes.invariant c.args.at c.requires.0 c.in-Some.linked.now c.in-Some.ensures.value _ (used_node c.args.offset c.args.kind c.args.name) refl
+    changed_changes _ _ c.nodes.view_is c.nodes.invariant c.args.at c.requires.0 c.set_use.new.self.slots (used_linked c.args.offset c.args.kind c.args.name)
+    (ap (λ (s : Stored). s.slots) c.set_use.ensures.changes) (used_node c.args.offset c.args.kind c.args.name) (λ n. refl)

@@ -2,6 +2,7 @@ use Rattle.std.proofs.Common.{◌≡◌, length, refl, sym, ap, ◌∙◌, subst
 use Rattle.std.specs.Prelude.{IsSomeAnd}
 use Rattle.std.specs.Int.NonZero.{non_zero_u64_get}
 use Rattle.gpu_cost.specs.Cost.{counts_of}
+use Rattle.gpu_block_chunks.specs.ChunkList.{chunk_of}
 use Rattle.gpu_block_pieces.specs.FreeList.{Counted}
 use Rattle.gpu_block_pieces.specs.Changes.{Renames}
 use Rattle.gpu_block_pieces.specs.Search.{LooksUpTo}
@@ -23,7 +24,7 @@ the_rename : (c : After-rename) → Renamed c.self.inside.chunks.size c.self.ins
     (non_zero_u64_get c.in-Some.id) c.args.name.now
 the_rename c =
     let e = c.in-Some-piece.ensures.piece in
-    let h = held_at c.self.inside.chunks.items c.in-Some-piece.piece.now c.get.result e.0 e.1 in
+    let h = held_at c.self.inside.chunks.items (chunk_of c.in-Some-piece.piece) c.get.result e.0 e.1 in
     renamed c.self.inside.chunks.size c.self.inside.granularity c.self.inside.counter c.self.inside.chunks.items c.rename.new.self.items (length e.1.front) (non_zero_u64_get c.in-Some.id)
     c.in_ok-new_name.new_name c.args.name.now c.in_ok-new_name.ensures.text c.self.invariant.1
     (subst (λ n. HoldsChunkId c.self.inside.chunks.items n (length e.1.front)) c.get.ensures.value h)
@@ -33,7 +34,7 @@ the_bytes : (c : After-rename) → bytes_of c.rename.new.self.items ≡ bytes_of
 the_bytes c =
     let e = c.in-Some-piece.ensures.piece in
     let h = subst (λ n. HoldsChunkId c.self.inside.chunks.items n (length e.1.front)) (c.get.ensures.value ∙ sym c.get-2.ensures.value)
-    (held_at c.self.inside.chunks.items c.in-Some-piece.piece.now c.get.result e.0 e.1) in
+    (held_at c.self.inside.chunks.items (chunk_of c.in-Some-piece.piece) c.get.result e.0 e.1) in
     named_bytes c.self.inside.chunks.items c.rename.new.self.items c.get-2.result (length e.1.front) c.in_ok-new_name.new_name h (c.rename.ensures.named (length e.1.front) h)
 
 pub invariant_of-self-2 : goal.invariant_of-self-2
@@ -97,7 +98,7 @@ returns-in_err-new_name-clause-cause c =
     let i = c.self.inside in
     let n = non_zero_u64_get c.in-Some.id in
     let e = c.in-Some-piece.ensures.piece in
-    let h = subst (λ k. HoldsChunkId i.chunks.items k (length e.1.front)) c.get.ensures.value (held_at i.chunks.items c.in-Some-piece.piece.now c.get.result e.0 e.1) in
+    let h = subst (λ k. HoldsChunkId i.chunks.items k (length e.1.front)) c.get.ensures.value (held_at i.chunks.items (chunk_of c.in-Some-piece.piece) c.get.result e.0 e.1) in
     rename_host c.from_residual.result c.args.self.now.block c.args.chunk_id c.from_residual.ensures.1
     (rename_live c.args.self.now.block c.args.chunk_id c.in-Some.id host_out_of_memory c.in-Some.is
     (live_in_view i.chunks.size i.granularity i.counter i.chunks.items c.args.self.now.block n (length e.1.front) (ap (λ (v : Counted). v.block) c.self.view_is) h) refl)
@@ -114,8 +115,8 @@ rename-requires c =
     let e = c.in-Some-piece.ensures.piece in
     record {
       piece = record {
-        chunk = c.in-Some-piece.piece.now;
-        at = subst (λ n. StandsAt c.self.inside.chunks.items n c.in-Some-piece.piece.now) (c.get.ensures.value ∙ sym c.get-2.ensures.value)
+        chunk = chunk_of c.in-Some-piece.piece;
+        at = subst (λ n. StandsAt c.self.inside.chunks.items n (chunk_of c.in-Some-piece.piece)) (c.get.ensures.value ∙ sym c.get-2.ensures.value)
             e.1;
         live = e.0;
         offset_is = refl;

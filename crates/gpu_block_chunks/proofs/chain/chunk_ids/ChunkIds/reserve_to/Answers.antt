@@ -36,6 +36,7 @@ loop-self-preserved c =
       grown = (
         grown.0 + 1,
         c.push_reserved.ensures.items
+            ∙ ap (λ (x : Option Entry). c.loop-self.self-inside.entries.items ++ x ∷ []) c.vacant.ensures
             ∙ ap (λ (xs : List (Option Entry)). xs ++ None ∷ []) grown.1 ∙ append_assoc c.reserve_exact.new.self.items (replicate grown.0 None) (None ∷ [])
             ∙ ap (λ (xs : List (Option Entry)). c.reserve_exact.new.self.items ++ xs) (replicate_more grown.0 None),
       );

@@ -1,8 +1,8 @@
-use Rattle.std.proofs.Common.{ℕ, ◌-◌, ◌^◌, ◌≡◌, ◌≤◌, ◌++◌, replicate, None, length, vec_len, vec_capacity}
+use Rattle.std.proofs.Common.{ℕ, ◌-◌, ◌^◌, ◌≡◌, ◌≤◌, ◌<◌, ◌++◌, replicate, None, length, vec_len, vec_capacity}
 use Rattle.gpu_block_chunks.proofs.chain.chunk_ids.ChunkIds.reserve_to.Given as goal
 
 abbrev pub invariant-loop-self : goal.invariant-loop-self
-invariant-loop-self l = record { grown : ((more : ℕ) × (l.self-inside.entries.items ≡ l.initial.self-inside.entries.items ++ replicate more None)); room : (l.slots ≤ vec_capacity l.self-inside.entries); heads : (l.self-inside.heads.items ≡ l.initial.self-inside.heads.items); enough : (vec_len l.self-inside.entries ≤ length l.initial.self-inside.heads.items); few : (vec_len l.self-inside.entries ≤ 2 ^ 32) }
+invariant-loop-self l = record { grown : ((more : ℕ) × (l.self-inside.entries.items ≡ l.initial.self-inside.entries.items ++ replicate more None)); room : (l.slots ≤ vec_capacity l.self-inside.entries); heads : (l.self-inside.heads.items ≡ l.initial.self-inside.heads.items); enough : (vec_len l.self-inside.entries ≤ length l.initial.self-inside.heads.items); few : (vec_len l.self-inside.entries < 2 ^ 32) }
 
 abbrev pub decreases-loop-self : goal.decreases-loop-self
 decreases-loop-self l = l.slots - vec_len l.self-inside.entries

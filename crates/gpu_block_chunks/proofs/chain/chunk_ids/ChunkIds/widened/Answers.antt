@@ -1,4 +1,4 @@
-use Rattle.std.proofs.Common.{◌<◌, length, ◌∙◌, arith}
+use Rattle.std.proofs.Common.{◌<◌, length, sym, ◌∙◌, arith}
 use Rattle.gpu_block_chunks.specs.ChunkIds.{ids_in}
 use Rattle.gpu_block_chunks.proofs.IdSlots.{id_of_entry, no_id}
 use Rattle.gpu_block_chunks.proofs.IdRows.{ids_length}
@@ -14,7 +14,7 @@ insert-requires-clause-new c =
     let end = c.len-slot-end.ensures in
     let test = c.loop-slot-test.true in
     let inside : s < length es = omega arith in
-    let at = id_of_entry es s c.in-Some.entry (entry_read es s c.index.result.now inside c.index.ensures ∙ c.in-Some.is) in
+    let at = id_of_entry es s c.in-Some.entry (entry_read es s c.index.result.now inside c.index.ensures ∙ sym c.entry.ensures ∙ c.in-Some.is) in
     rw (c.loop-slot.invariant, ← c.self.view_is)
     (still_new (ids_in es) c.args.slots s (omega arith) (rw (← c.self.view_is) at c.requires.more) c.in-Some.entry.chunk_id c.self.invariant.distinct at)
 
@@ -36,9 +36,9 @@ loop-slot-preserved c =
     let end = c.len-slot-end.ensures in
     let test = c.loop-slot-test.true in
     let inside : s < length es = omega arith in
-    let read = entry_read es s c.index.result.now inside c.index.ensures in
+    let read = entry_read es s c.index.result.now inside c.index.ensures ∙ sym c.entry.ensures in
     let more = rw (← c.self.view_is) at c.requires.more in
-    elim c.match-index.branch [
+    elim c.match-entry.branch [
       | in-Some w ↦
           w.wide-is ∙ w.insert.ensures ∙ rw (c.loop-slot.invariant, ← c.self.view_is) (wrote (ids_in es) c.args.slots s (omega arith) more w.in-Some.entry.chunk_id
           (id_of_entry es s w.in-Some.entry (read ∙ w.in-Some.is)))

@@ -1,24 +1,51 @@
-use Rattle.std.proofs.Common.{arith}
-use Rattle.std.proofs.lemmas.List.{map-set, length-map}
-use Rattle.std.proofs.lemmas.Option.{slice_get_within}
-use Rattle.gpu_block_chunks.specs.declared.chain.slots.Slot.TheVariants.{Taken, Free}
-use Rattle.gpu_block_chunks.specs.FreeSlots.{chunk_in}
-use Rattle.gpu_block_chunks.proofs.FreeSlots.{taken_at, count_after, sound_freed, changes_slot}
+use Rattle.std.proofs.Common.{refl, arith}
+use Rattle.gpu_block_chunks.proofs.SlotRows.{length-slots}
+use Rattle.gpu_block_chunks.proofs.SlotWrites.{within, within_names}
+use Rattle.gpu_block_chunks.proofs.SlotFills.{freed_sound, freed_changes, freed_count, freed_length, some_live}
 use Rattle.gpu_block_chunks.proofs.chain.slots.Slots.remove.Goals as goal
+
+pub index_mut-cell-requires : goal.index_mut-cell-requires
+index_mut-cell-requires c =
+    let inside = within c.self.inside.cells.items c.self.inside.names.items c.self.inside.live c.self.inside.free c.self.invariant c.args.slot (rw (← c.self.view_is) at c.requires) in
+    omega arith
+
+pub index_mut-requires : goal.index_mut-requires
+index_mut-requires c =
+    let inside = within_names c.self.inside.cells.items c.self.inside.names.items c.self.inside.live c.self.inside.free c.self.invariant c.args.slot (rw (← c.self.view_is) at c.requires) in
+    omega arith
+
+pub overflow_cast-slot : goal.overflow_cast-slot
+overflow_cast-slot c =
+    let inside = within c.self.inside.cells.items c.self.inside.names.items c.self.inside.live c.self.inside.free c.self.invariant c.args.slot (rw (← c.self.view_is) at c.requires) in
+    let few = c.self.invariant.few in
+    omega arith
+
+pub new-self-inside-requires : goal.new-self-inside-requires
+new-self-inside-requires c =
+    let inside = within c.self.inside.cells.items c.self.inside.names.items c.self.inside.live c.self.inside.free c.self.invariant c.args.slot (rw (← c.self.view_is) at c.requires) in
+    let few = c.self.invariant.few in
+    omega arith
 
 pub invariant_of-self : goal.invariant_of-self
 invariant_of-self c =
-    let found = taken_at c.self.inside.slots.items c.args.slot (rw (← c.self.view_is) at c.requires) in
-    rw c.replace.ensures.after (sound_freed _ _ _ c.args.slot found.0 c.self.invariant found.1)
+    rw (c.new-self-inside.ensures, c.empty.ensures) (freed_sound c.self.inside.cells.items c.self.inside.names.items c.self.inside.live c.self.inside.free c.self.invariant c.args.slot (rw (← c.self.view_is) at c.requires) _ refl)
 
 pub returns-clause-changes : goal.returns-clause-changes
 returns-clause-changes c =
-    let found = taken_at c.self.inside.slots.items c.args.slot (rw (← c.self.view_is) at c.requires) in
-    let within = slice_get_within c.self.inside.slots.items c.args.slot _ found.1 in
-    rw (← c.self.view_is) (changes_slot _ _ _ _ (omega (arith, length-map c.self.inside.slots.items chunk_in)) (rw (c.replace.ensures.after, map-set)))
+    rw (← c.self.view_is, c.empty.ensures) (freed_changes c.self.inside.cells.items c.self.inside.names.items c.self.inside.live c.self.inside.free c.self.invariant c.args.slot (rw (← c.self.view_is) at c.requires) _ refl _ _)
 
 pub returns-clause-count : goal.returns-clause-count
 returns-clause-count c =
-    let found = taken_at c.self.inside.slots.items c.args.slot (rw (← c.self.view_is) at c.requires) in
-    let counted = count_after c.self.inside.slots.items c.args.slot (Taken found.0) (Free c.self.inside.free) found.1 in
-    rw (← c.self.view_is, c.replace.ensures.after) (omega arith)
+    rw (← c.self.view_is, c.empty.ensures) (freed_count c.self.inside.cells.items c.self.inside.names.items c.self.inside.live c.self.inside.free c.self.invariant c.args.slot (rw (← c.self.view_is) at c.requires) _ refl)
+
+pub returns-clause-length : goal.returns-clause-length
+returns-clause-length c =
+    rw (← c.self.view_is, c.empty.ensures) (freed_length c.self.inside.cells.items c.self.inside.names.items c.self.inside.live c.self.inside.free c.self.invariant c.args.slot (rw (← c.self.view_is) at c.requires) _ refl)
+
+pub returns-clause-room : goal.returns-clause-room
+returns-clause-room c =
+    let some = some_live c.self.inside.cells.items c.self.inside.names.items c.self.inside.live c.self.inside.free c.self.invariant c.args.slot (rw (← c.self.view_is) at c.requires) in
+    let total = c.self.invariant.sound.total in
+    let named = c.self.invariant.named in
+    let long = length-slots c.self.inside.cells.items c.self.inside.names.items named in
+    rw (← c.self.view_is) (omega arith)
