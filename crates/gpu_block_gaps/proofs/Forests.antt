@@ -1,11 +1,13 @@
 -- Trees of several classes in one row of slots.
-use Rattle.std.proofs.Common.{◌≡◌, ◌≢◌, ℕ, ◌+◌, ◌^◌, ◌<◌, ◌≤◌, List, length, set, Option, Some, None, is_some, true, false, All, ◌⊎◌, inl, inr, refl, sym, ap, subst, ◌∙◌, arith}
+use Rattle.std.proofs.Common.{◌≡◌, ◌≢◌, ℕ, ◌+◌, ◌/◌, ◌^◌, ◌<◌, ◌≤◌, List, length, set, Option, Some, None, is_some, true, false, All, ◌⊎◌, inl, inr, refl, sym, ap, subst, ◌∙◌, arith}
 use Rattle.std.specs.List.{slice_get, AllPairs}
 use Rattle.std.proofs.lemmas.List.Sums.{sum_by-set}
 use Rattle.std.proofs.lemmas.List.Elements.{All-weaker}
 use Rattle.std.proofs.lemmas.Bool.{cases_eq, cases_lt}
 use Rattle.std.proofs.lemmas.Option.{same_Some}
 use Rattle.gpu_block_gaps.specs.declared.class.Scale.{Scale}
+use Rattle.std.proofs.Math.Nat.{min-le_right}
+use Rattle.gpu_block_gaps.specs.Class.{class_number}
 use Rattle.gpu_block_gaps.specs.ClassSet.{is_in}
 use Rattle.std.proofs.lemmas.List.{get_or_past, get_or-set_same, get_or-set_other, length-set}
 use Rattle.gpu_block_gaps.specs.declared.tree.Node.{Node}
@@ -87,6 +89,10 @@ module _ (key : ℕ → ℕ) (scale : Scale) (forks : List Fork) (spare : List �
       let class_t = a.2.kept leaf.0 (subst (HasLeaf leaf.0) (sym same_t) leaf.1) in
       let class_u = b.2.kept leaf.0 (subst (HasLeaf leaf.0) (sym same_u) leaf.2) in
       other (sym class_t ∙ class_u)
+
+-- no class is behind the last one
+pub class_last : (scale : Scale) (n : ℕ) → class_in scale n ≤ scale.last
+class_last scale n = min-le_right (class_number scale.digits (n / 2 ^ 64)) scale.last
 
 -- a class with a root has a place
 pub root_within : (roots : List (Option Node)) (c : ℕ) (node : Node) → root_at roots c ≡ Some node → c < length roots

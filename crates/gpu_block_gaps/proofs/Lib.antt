@@ -22,4 +22,5 @@ pub mod Indexing
 pub mod Surface
 pub mod Anew
 pub mod Rekeyed
+pub mod Moving
 pub mod Below

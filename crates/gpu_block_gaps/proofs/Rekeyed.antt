@@ -3,7 +3,7 @@ use Rattle.std.proofs.Common.{◌≡◌, ◌≢◌, ℕ, zero, suc, ◌+◌, ◌
 use Rattle.std.specs.List.{insert, remove, slice_get}
 use Rattle.std.proofs.lemmas.Bool.{cases_eq}
 use Rattle.std.proofs.lemmas.Option.{same_Some}
-use Rattle.std.proofs.lemmas.List.{get_or-set_same, get_or-set_other, get_or_default, length-set}
+use Rattle.std.proofs.lemmas.List.{get_or-set_same, get_or-set_other, get_or_default, get_or-map, length-set}
 use Rattle.std.proofs.lemmas.List.Edits.{length-remove}
 use Rattle.gpu_block_gaps.specs.Tree.{Tree, tip, HasLeaf, Lays}
 use Rattle.gpu_block_gaps.specs.declared.forest.Forest.{Forest}
@@ -138,13 +138,14 @@ module _ (t : Threaded) (f : Forest) (trees : List (Option Tree)) (are : AreInde
       short_now l is (inr other) = subst (λ (a : Gap). IsShort a) (sym (stays l other)) (are.short l is)
 
 -- a list is what it was once an element of it is put back
-put_back : (xs : List ℕ) (p : ℕ) → p < length xs → insert (remove xs p) p (get_or xs p 0) ≡ xs
+pub put_back : (xs : List ℕ) (p : ℕ) → p < length xs → insert (remove xs p) p (get_or xs p 0) ≡ xs
 put_back [] p lt = absurd (omega arith)
 put_back (x ∷ xs) zero lt = refl
 put_back (x ∷ xs) (suc p) lt = ap (λ (ys : List ℕ). x ∷ ys) (put_back xs p (omega arith))
 
 module _ (t : Threaded) (f : Forest) (trees : List (Option Tree)) (are : AreIndexed t f trees) (size start : ℕ) (has : HasKeyAt (gaps_of t) size start) (g : Gap) (inside : get_or t.order has.at 0 < length t.gaps) where
-  others : (l : ℕ) → IsIn l (remove t.order has.at) → gap_in (set t.gaps (get_or t.order has.at 0) g) l ≡ gap_in t.gaps l
+  -- the gaps of the other slots stay
+  pub others : (l : ℕ) → IsIn l (remove t.order has.at) → gap_in (set t.gaps (get_or t.order has.at 0) g) l ≡ gap_in t.gaps l
   others l is =
       let within = at_within t f trees are size start has in
       let old = in_removed t.order has.at within l is in
@@ -173,6 +174,13 @@ module _ (t : Threaded) (f : Forest) (trees : List (Option Tree)) (are : AreInde
   the_slot =
       let there = slot_tree t f trees are size start has in
       subst (λ (u : Tree). HasLeaf (get_or t.order has.at 0) u) (same_Some _ _ (sym there.is ∙ alone)) there.has
+
+  pub slot_here : IsIn slot t.order
+  slot_here = (has.at, at_within t f trees are size start has, the_slot)
+
+  pub slot_length : size ≡ (gap_in t.gaps slot).length
+  slot_length =
+      sym (ap (λ (a : Gap). a.length) (ap (gap_in t.gaps) (sym the_slot) ∙ sym (get_or-map (gap_in t.gaps) t.order has.at 0 blank (at_within t f trees are size start has))) ∙ (has.at_key blank).0)
 
   pub exchanged : (g : Gap) → IsShort g → class_in f.scale (code g) ≡ class_in f.scale (size * 2 ^ 64 + start) → ((l : ℕ) → IsIn l t.order → l < length t.gaps)
       → (t' : Threaded) → t'.order ≡ t.order → t'.gaps ≡ set t.gaps slot g → IsIndexed t' f × IsReplaced (gaps_of t) size start g (gaps_of t')

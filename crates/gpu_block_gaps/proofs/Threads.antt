@@ -162,7 +162,7 @@ past_gap rs k = at (rs ++ blank_record ∷ []) ∙ ap gap_of (past_blank rs k) �
         by_order (inl lt) = get_or-map gap_of xs k blank_record blank lt
         by_order (inr past) = get_or_past (map gap_of xs) k blank (let a = length-map xs gap_of in omega arith) ∙ sym (ap gap_of (get_or_past xs k blank_record past))
 
-module _ (rs : List Record) (spare : List ℕ) (room : ℕ) (order : List ℕ) (are : AreThreaded rs spare room order) (few : length rs + 1 < 2 ^ 31) (fits : length rs < room) where
+module _ (rs : List Record) (spare : List ℕ) (room : ℕ) (order : List ℕ) (are : AreThreaded rs spare room order) (few : length rs + 1 < 2 ^ 30) (fits : length rs < room) where
   long : length (rs ++ blank_record ∷ []) ≡ length rs + 1
   long = length-append rs (blank_record ∷ [])
 
@@ -235,25 +235,25 @@ module _ (rs old rs' : List Record) (spare0 spare' : List ℕ) (s room room' nex
     λ e. fresh_next rs rs' spare' s room order threaded p le (sym there ∙ e),
   )
 
-  module _ (read : at ≡ get_or rs next at) where
-    prev_is : at.prev ≡ get_or (0 ∷ order) p 0
-    prev_is = ap (λ (r : Record). r.prev) (read ∙ get_or_default rs next at blank_record next_at.0) ∙ ap (prev_in rs) there ∙ (threaded.linked p le).1
+  module _ (read : at ≡ get_or rs next at) (before : ℕ) (told : before ≡ at.prev) where
+    prev_is : before ≡ get_or (0 ∷ order) p 0
+    prev_is = told ∙ ap (λ (r : Record). r.prev) (read ∙ get_or_default rs next at blank_record next_at.0) ∙ ap (prev_in rs) there ∙ (threaded.linked p le).1
 
-    pub prev_at : (at.prev < length rs) × (at.prev ≢ s)
+    pub prev_at : (before < length rs) × (before ≢ s)
     prev_at = (
       subst (λ m. m < length rs) (sym prev_is) (prev_inside rs (spare' ++ s ∷ []) room order threaded p le some),
       λ e. fresh_in_ring rs rs' spare' s room order threaded p 0 le (sym prev_is ∙ e),
     )
 
-    pub inserted : room' ≡ room → old ≡ rs → LeadsThrough (next_in old) (next_in rs') at.prev s next → LeadsThrough (prev_in old) (prev_in rs') next s at.prev → length rs' ≡ length old
+    pub inserted : room' ≡ room → old ≡ rs → LeadsThrough (next_in old) (next_in rs') before s next → LeadsThrough (prev_in old) (prev_in rs') next s before → length rs' ≡ length old
         → IsThread rs' spare' room' × (order_of rs' ≡ insert order p s)
     inserted capacity same next_links prev_links long = whole rs' spare' room' (insert order p s) (
         subst (λ r. AreThreaded rs' spare' r (insert order p s)) (sym capacity) (
         threaded_more rs rs' spare' s room order threaded p le (long ∙ ap length same)
         (subst (λ (m : ℕ). LeadsThrough (next_in rs) (next_in rs') (get_or (0 ∷ order) p 0) s m) there
-        (subst (λ (m : ℕ). LeadsThrough (next_in rs) (next_in rs') m s next) prev_is (subst (λ (xs : List Record). LeadsThrough (next_in xs) (next_in rs') at.prev s next) same next_links)))
+        (subst (λ (m : ℕ). LeadsThrough (next_in rs) (next_in rs') m s next) prev_is (subst (λ (xs : List Record). LeadsThrough (next_in xs) (next_in rs') before s next) same next_links)))
         (subst (λ (m : ℕ). LeadsThrough (prev_in rs) (prev_in rs') m s (get_or (0 ∷ order) p 0)) there
-        (subst (λ (m : ℕ). LeadsThrough (prev_in rs) (prev_in rs') next s m) prev_is (subst (λ (xs : List Record). LeadsThrough (prev_in xs) (prev_in rs') next s at.prev) same prev_links)))))
+        (subst (λ (m : ℕ). LeadsThrough (prev_in rs) (prev_in rs') next s m) prev_is (subst (λ (xs : List Record). LeadsThrough (prev_in xs) (prev_in rs') next s before) same prev_links)))))
 
 module _ (rs old rs' : List Record) (spare spare' : List ℕ) (s room room' : ℕ) (order : List ℕ) (p : ℕ) (thread : IsThread rs spare room) (is : order_of rs ≡ order) (lt : p < length order)
     (there : s ≡ get_or order p 0) where

@@ -47,6 +47,13 @@ first_left word from fits some =
     by_order i P one (inl lt) = lt
     by_order i P one (inr ge) = absurd (let zero = bit_at_above word 64 i fits ge in omega arith)
 
+-- the first bit of a word that isn't 0
+pub first_whole : (word : ℕ) → word < 2 ^ 64 → word ≢ 0 → (trailing_zeros w64 word < 64) × IsFirst (bit_of word) 0 (trailing_zeros w64 word)
+first_whole word fits some =
+    let whole : word / 2 ^ 0 ≡ word = omega arith in
+    let same : 0 + trailing_zeros w64 (word / 2 ^ 0) ≡ trailing_zeros w64 word = (let e = ap (trailing_zeros w64) whole in omega arith) in
+    subst (λ k. (k < 64) × IsFirst (bit_of word) 0 k) same (first_left word 0 fits (λ zero. some (sym whole ∙ zero)))
+
 -- ---- several words
 
 pub in_word : (words : List ℕ) (w k : ℕ) → k < 64 → is_in words (w * 64 + k) ≡ bit_of (get_or words w 0) k

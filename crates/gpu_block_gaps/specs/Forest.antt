@@ -71,9 +71,13 @@ IsWide f = f.scale.last < length f.roots.items
 abbrev pub KeepsRoom : Forest → Forest → Type 0
 KeepsRoom old new = (new.scale ≡ old.scale) × (vec_len new.forks ≡ vec_len old.forks) × (length new.roots.items ≡ length old.roots.items)
 
+-- that class has a tree
+abbrev pub HasTreeIn : Forest → ℕ → Type 0
+HasTreeIn f c = (key : ℕ → ℕ) × (trees : List (Option Tree)) × IsForest key f trees × (t : Tree) × (tree_at trees c ≡ Some t)
+
 -- the class of that key has a tree
 abbrev pub HasTree : Forest → ℕ → Type 0
-HasTree f n = (key : ℕ → ℕ) × (trees : List (Option Tree)) × IsForest key f trees × (t : Tree) × (tree_at trees (class_in f.scale n) ≡ Some t)
+HasTree f n = HasTreeIn f (class_in f.scale n)
 
 -- the leaf is the first one of the first later class that has a tree
 pub record IsFirstLater (trees : List (Option Tree)) (class leaf : ℕ) : Type 0 where

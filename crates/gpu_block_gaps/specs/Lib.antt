@@ -3,6 +3,7 @@ pub mod Class
 pub mod ClassSet
 pub mod Tree
 pub mod Packed
+pub mod TaggedSlot
 pub mod Forest
 pub mod Order
 pub mod Index

@@ -1,5 +1,5 @@
 -- The gaps in order: a thread of their slots, and trees that find a slot by its gap's length and start.
-use Rattle.std.specs.Prelude.{◌≡◌, ℕ, ◌+◌, ◌*◌, ◌^◌, ◌<◌, ◌≤◌, List, length, map, Option, Some, None, vec_len}
+use Rattle.std.specs.Prelude.{◌≡◌, ℕ, ◌+◌, ◌*◌, ◌^◌, ◌<◌, ◌≤◌, List, length, map, slice_index, Option, Some, None, vec_len}
 use Rattle.gpu_block_gaps.specs.declared.class.Scale.{Scale}
 use Rattle.gpu_block_gaps.specs.Tree.{Tree, IsSplit, near}
 use Rattle.gpu_block_gaps.specs.Forest.{IsForest, IsWide, class_in, tree_at}
@@ -42,3 +42,11 @@ abbrev pub IsNearby : (ℕ → ℕ) → Scale → List (Option Tree) → ℕ →
 IsNearby key scale trees n Nothing = tree_at trees (class_in scale n) ≡ None
 IsNearby key scale trees n (Same slot) = (t : Tree) × (tree_at trees (class_in scale n) ≡ Some t) × (slot ≡ near n t) × (key slot ≡ n)
 IsNearby key scale trees n (Apart bit) = (t : Tree) × (tree_at trees (class_in scale n) ≡ Some t) × IsSplit key t n bit × (bit < 128)
+
+-- the length is greater than that of the gap before the place, if there is one
+abbrev pub IsLonger : Threaded → (place size : ℕ) → Type 0
+IsLonger t place size = (k : ℕ) → k + 1 ≡ place → (gap_in t.gaps (slice_index t.order k)).length < size
+
+-- the length is less than that of the gap behind the place, if there is one
+abbrev pub IsShorter : Threaded → (place size : ℕ) → Type 0
+IsShorter t place size = place + 1 < length t.order → size < (gap_in t.gaps (slice_index t.order (place + 1))).length

@@ -56,7 +56,7 @@ pub record AreThreaded (rs : List Record) (spare : List ℕ) (room : ℕ) (order
   pub apart : AllPairs (λ a b. a ≢ b) spare
   pub counted : length order + length spare ≡ length rs - 1
   pub fits : length rs ≤ room
-  pub few : length rs < 2 ^ 31
+  pub few : length rs < 2 ^ 30
 
 -- the records are linked in the order that their links tell
 abbrev pub IsThread : List Record → List ℕ → ℕ → Type 0

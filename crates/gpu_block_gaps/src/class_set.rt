@@ -136,9 +136,6 @@ impl ClassSet {
             return Some(word * WORD + bit as usize);
         }
         let next = next_bit(&self.tops, word + 1)?;
-        match first_from(self.words[next], 0) {
-            Some(bit) => Some(next * WORD + bit as usize),
-            None => unreachable!(),
-        }
+        Some(next * WORD + self.words[next].trailing_zeros() as usize)
     }
 }

@@ -1,11 +1,11 @@
 //! A tree for each class of lengths, all in one row of slots.
 
-ghost use Rattle.std.specs.Prelude.{◌≡◌, ℕ, ◌+◌, ◌^◌, ◌<◌, ◌≤◌, ◌⊎◌, List, [], Option, Some, None, MatchOption, IfSome, OnOk, vec_len, vec_capacity, slice_set};
+ghost use Rattle.std.specs.Prelude.{◌≡◌, ◌≢◌, ℕ, ◌+◌, ◌^◌, ◌<◌, ◌≤◌, ◌⊎◌, List, [], Option, Some, None, MatchOption, IfSome, OnOk, vec_len, vec_capacity, slice_set, IsTrue, ◌↔◌};
 ghost use Rattle.gpu_block_gaps.specs.Key.{code_of};
 ghost use Rattle.gpu_block_gaps.specs.Class.{IsFew};
 ghost use Rattle.gpu_block_gaps.specs.Packed.{IsSmall};
 ghost use Rattle.gpu_block_gaps.specs.Tree.{Tree, tip, near, leaves_of, IsSplit, IsPlace};
-ghost use Rattle.gpu_block_gaps.specs.Forest.{IsForest, HasTree, AddsLeaf, LosesLeaf, IsFirstLater, IsWide, KeepsTrees, KeepsRoom, class_in, tree_at, root_at};
+ghost use Rattle.gpu_block_gaps.specs.Forest.{IsForest, HasTree, HasTreeIn, AddsLeaf, LosesLeaf, IsFirstLater, IsWide, KeepsTrees, KeepsRoom, class_in, tree_at, root_at};
 
 use crate::class::Scale;
 use crate::class_set::ClassSet;
@@ -108,7 +108,8 @@ impl Forest {
         Ok(())
     }
 
-    fn class(&self, key: Key) -> usize
+    /// The class of a key.
+    pub fn class(&self, key: Key) -> usize
         requires { self.now.scale.digits < 32 }
         ensures class { result ≡ class_in self.now.scale (code_of key) }
         ensures within { result ≤ self.now.scale.last }
@@ -126,115 +127,147 @@ impl Forest {
         }
     }
 
-    /// The leaf of a key's class, if it has no other, and another key is of that class too.
-    pub fn only_leaf(&self, key: Key, other: Key) -> Option<u32>
-        requires { (at : ℕ → ℕ) × (trees : List (Option Tree)) × IsForest at self.now trees }
-        ensures { (at : ℕ → ℕ) (trees : List (Option Tree)) → IsForest at self.now trees
-            → let class = class_in self.now.scale (code_of key)
-            in IfSome result (λ leaf. (class_in self.now.scale (code_of other) ≡ class)
-            × (tree_at trees class ≡ Some (tip leaf))) }
+    /// The root of a class that has a tree.
+    #[inline(always)]
+    fn root_of(&self, class: usize) -> Node
+        requires { HasTreeIn self.now class }
+        ensures is { root_at self.now.roots.items class ≡ Some result }
+        ensures small { IsSmall result }
     {
-        let class = self.class(key);
-        if self.class(other) != class {
-            return None;
-        }
-        match self.root(class)? {
+        self.roots[class].node_there()
+    }
+
+    /// The leaf of a class that has a gap, if it has no other.
+    #[inline(always)]
+    pub fn lone(&self, class: usize) -> Option<u32>
+        requires { HasTreeIn self.now class }
+        ensures { (at : ℕ → ℕ) (trees : List (Option Tree)) → IsForest at self.now trees
+            → MatchOption result ((leaf : ℕ) → tree_at trees class ≢ Some (tip leaf))
+            (λ leaf. tree_at trees class ≡ Some (tip leaf)) }
+    {
+        match self.root_of(class) {
             Node::Leaf(leaf) => Some(leaf),
             Node::Branch(_) => None,
         }
     }
 
-    /// The leaf to which the bits of a key lead, in the tree of its class.
-    pub fn near(&self, key: Key) -> Option<u32>
-        requires { (at : ℕ → ℕ) × (trees : List (Option Tree)) × IsForest at self.now trees }
+    /// Whether a class has no gap.
+    #[inline(always)]
+    pub fn has_no_tree(&self, class: usize) -> bool
         ensures { (at : ℕ → ℕ) (trees : List (Option Tree)) → IsForest at self.now trees
-            → let class = class_in self.now.scale (code_of key)
-            in MatchOption result (tree_at trees class ≡ None)
-            (λ leaf. (t : Tree) × (tree_at trees class ≡ Some t) × (leaf ≡ near (code_of key) t)) }
+            → IsTrue result ↔ (tree_at trees class ≡ None) }
     {
-        let root = self.root(self.class(key))?;
+        self.root(class).is_none()
+    }
+
+    /// Moves the leaf that a class has alone to another one, which has no tree. The leaf's key becomes one of that class.
+    #[inline(always)]
+    pub fn move_leaf(&mut self, from: usize, to: usize)
+        requires from { HasTreeIn self.old from }
+        requires to { to ≤ self.old.scale.last }
+        ensures trees { (at new : ℕ → ℕ) (trees : List (Option Tree)) (leaf : ℕ)
+            → IsForest at self.old trees
+            → tree_at trees from ≡ Some (tip leaf) → tree_at trees to ≡ None
+            → ((l : ℕ) → l ≢ leaf → new l ≡ at l) → to ≡ class_in self.old.scale (new leaf)
+            → IsForest new self.new (slice_set (slice_set trees from None) to (Some (tip leaf))) }
+        ensures room { KeepsRoom self.old self.new }
+    {
+        let root = self.roots[from];
+        self.roots[from] = Root::empty();
+        self.classes.remove(from);
+        self.roots[to] = root;
+        self.classes.insert(to);
+    }
+
+    /// The leaf to which the bits of a key lead, in the tree of its class.
+    pub fn near(&self, key: Key, class: usize) -> Option<u32>
+        requires forest { (at : ℕ → ℕ) × (trees : List (Option Tree)) × IsForest at self.now trees }
+        requires class { class ≡ class_in self.now.scale (code_of key) }
+        ensures { (at : ℕ → ℕ) (trees : List (Option Tree)) → IsForest at self.now trees
+            → let c = class_in self.now.scale (code_of key)
+            in MatchOption result (tree_at trees c ≡ None)
+            (λ leaf. (t : Tree) × (tree_at trees c ≡ Some t) × (leaf ≡ near (code_of key) t)) }
+    {
+        let root = self.root(class)?;
         Some(nearest(&self.forks, root, key))
     }
 
     /// The place of a key in the tree of its class, if it differs in that bit from the key to which its bits lead, and in none above it.
-    pub fn place(&self, key: Key, bit: u32) -> Place
+    pub fn place(&self, key: Key, class: usize, bit: u32) -> Place
         requires there { HasTree self.now (code_of key) }
+        requires class { class ≡ class_in self.now.scale (code_of key) }
         requires bit { bit < 128 }
         ensures { (at : ℕ → ℕ) (trees : List (Option Tree)) (t : Tree) → IsForest at self.now trees
             → tree_at trees (class_in self.now.scale (code_of key)) ≡ Some t
             → IsSplit at t (code_of key) bit → IsPlace at (code_of key) (leaves_of t) result }
     {
-        match self.root(self.class(key)) {
-            Some(root) => place_of(&self.forks, root, key, bit),
-            None => unreachable!(),
-        }
+        let root = self.root_of(class);
+        place_of(&self.forks, root, key, bit)
     }
 
-    /// The first leaf of the classes behind that of a key.
+    /// The first leaf of the classes behind that one.
     #[inline(always)]
-    pub fn first_later(&self, key: Key) -> Option<u32>
-        requires { (at : ℕ → ℕ) × (trees : List (Option Tree)) × IsForest at self.now trees }
+    pub fn first_later(&self, class: usize) -> Option<u32>
+        requires forest { (at : ℕ → ℕ) × (trees : List (Option Tree)) × IsForest at self.now trees }
+        requires class { class ≤ self.now.scale.last }
         ensures { (at : ℕ → ℕ) (trees : List (Option Tree)) → IsForest at self.now trees
-            → let class = class_in self.now.scale (code_of key)
-            in MatchOption result ((c : ℕ) → class < c → tree_at trees c ≡ None)
+            → MatchOption result ((c : ℕ) → class < c → tree_at trees c ≡ None)
             (IsFirstLater trees class) }
     {
-        let class = self.classes.next_from(self.class(key) + 1)?;
-        match self.root(class) {
-            Some(root) => Some(first(&self.forks, root)),
-            None => unreachable!(),
-        }
+        let later = self.classes.next_from(class + 1)?;
+        let root = self.root_of(later);
+        Some(first(&self.forks, root))
     }
 
     /// Puts a leaf into a class that has no tree.
-    pub fn insert_first(&mut self, key: Key, leaf: u32)
+    pub fn insert_first(&mut self, key: Key, class: usize, leaf: u32)
         requires forest { (at : ℕ → ℕ) × (trees : List (Option Tree)) × IsForest at self.old trees }
+        requires class { class ≡ class_in self.old.scale (code_of key) }
         requires wide { IsWide self.old }
         requires leaf { leaf + 1 < 2 ^ 31 }
         ensures trees { (at : ℕ → ℕ) (trees : List (Option Tree)) → IsForest at self.old trees
-            → at leaf ≡ code_of key → let class = class_in self.old.scale (code_of key)
-            in tree_at trees class ≡ None
-            → IsForest at self.new (slice_set trees class (Some (tip leaf))) }
+            → at leaf ≡ code_of key → let c = class_in self.old.scale (code_of key)
+            in tree_at trees c ≡ None
+            → IsForest at self.new (slice_set trees c (Some (tip leaf))) }
         ensures room { KeepsRoom self.old self.new }
     {
-        let class = self.class(key);
         self.roots[class] = Root::at(Node::Leaf(leaf));
         self.classes.insert(class);
     }
 
     /// Puts a leaf into the tree of its class. Its key differs in that bit from the key to which its bits lead, and in none above it.
     #[inline(always)]
-    pub fn insert_beside(&mut self, key: Key, bit: u32, leaf: u32)
+    pub fn insert_beside(&mut self, key: Key, class: usize, bit: u32, leaf: u32)
         requires there { HasTree self.old (code_of key) }
+        requires class { class ≡ class_in self.old.scale (code_of key) }
         requires bit { bit < 128 }
         requires spare { 0 < vec_len self.old.spare }
         requires leaf { leaf + 1 < 2 ^ 31 }
         ensures trees { (at : ℕ → ℕ) (trees : List (Option Tree)) (t : Tree)
             → IsForest at self.old trees → at leaf ≡ code_of key
-            → let class = class_in self.old.scale (code_of key) in tree_at trees class ≡ Some t
+            → let c = class_in self.old.scale (code_of key) in tree_at trees c ≡ Some t
             → IsSplit at t (code_of key) bit
-            → (grows : Tree) × IsForest at self.new (slice_set trees class (Some grows))
+            → (grows : Tree) × IsForest at self.new (slice_set trees c (Some grows))
             × AddsLeaf leaf t grows }
         ensures room { KeepsRoom self.old self.new }
     {
-        let class = self.class(key);
-        match (self.root(class), self.spare.pop()) {
-            (Some(root), Some(slot)) => {
-                let root = insert(&mut self.forks, root, key, bit, leaf, slot);
-                self.roots[class] = Root::at(root);
-            }
-            _ => unreachable!(),
-        }
+        let node = self.root_of(class);
+        let Some(slot) = self.spare.pop() else {
+            unreachable!()
+        };
+        let root = insert(&mut self.forks, node, key, bit, leaf, slot);
+        self.roots[class] = Root::at(root);
     }
 
     /// Takes the leaf to which the bits of a key lead out of the tree of its class.
     #[inline(always)]
-    pub fn remove(&mut self, key: Key) -> u32
-        requires { HasTree self.old (code_of key) }
+    pub fn remove(&mut self, key: Key, class: usize) -> u32
+        requires there { HasTree self.old (code_of key) }
+        requires class { class ≡ class_in self.old.scale (code_of key) }
         ensures trees { (at : ℕ → ℕ) (trees : List (Option Tree)) (t : Tree)
-            → IsForest at self.old trees → let class = class_in self.old.scale (code_of key)
-            in tree_at trees class ≡ Some t
-            → (rest : Option Tree) × IsForest at self.new (slice_set trees class rest)
+            → IsForest at self.old trees → let c = class_in self.old.scale (code_of key)
+            in tree_at trees c ≡ Some t
+            → (rest : Option Tree) × IsForest at self.new (slice_set trees c rest)
             × LosesLeaf (near (code_of key) t) t rest }
         ensures leaf { (at : ℕ → ℕ) (trees : List (Option Tree)) (t : Tree)
             → IsForest at self.old trees
@@ -242,20 +275,18 @@ impl Forest {
             → result ≡ near (code_of key) t }
         ensures room { KeepsRoom self.old self.new }
     {
-        let class = self.class(key);
-        match self.root(class) {
-            Some(Node::Branch(slot)) => {
+        match self.root_of(class) {
+            Node::Branch(slot) => {
                 let cut = remove(&mut self.forks, slot, key);
                 self.roots[class] = Root::at(cut.node);
                 self.spare.push_reserved(cut.slot);
                 cut.leaf
             }
-            Some(Node::Leaf(leaf)) => {
+            Node::Leaf(leaf) => {
                 self.roots[class] = Root::empty();
                 self.classes.remove(class);
                 leaf
             }
-            None => unreachable!(),
         }
     }
 }

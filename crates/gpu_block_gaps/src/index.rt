@@ -8,7 +8,7 @@ ghost use Rattle.gpu_block_gaps.specs.Ordered.{gaps_of};
 use crate::class::Scale;
 use crate::forest::Forest;
 use crate::key::Key;
-use crate::order::{Nearby, exchange, look_near, next_from, put, take};
+use crate::order::{Nearby, exchange, key_of, look_near, next_from, put, take};
 use crate::scan::Scan;
 use crate::thread::Thread;
 use gpu_cost::Cost;
@@ -19,17 +19,17 @@ use std::marker::Model;
 /// How many binary digits of a length its class tells, behind the first, where there is room for few gaps.
 const FEW_DIGITS: u32 = 4;
 
-/// For how many gaps there is room at most: a slot has a number of 31 bits, and slot 0 has no gap.
-const MOST_GAPS: usize = (1 << 31) - 2;
+/// For how many gaps there is room at most: a slot has a number of 30 bits, and slot 0 has no gap.
+const MOST_GAPS: usize = (1 << 30) - 2;
 
 /// For how many gaps more there is room at least, once it grows.
 const LEAST_GROWTH: usize = 4;
 
-/// For how many gaps there is room after it grew. Records are long, so that it grows by a quarter, and not to the double.
+/// For how many gaps there is room after it grew. Records are long, so that it grows by a thirty-second, and not to the double.
 fn grown(room: usize) -> usize
-    ensures { result + 1 < 2 ^ 31 }
+    ensures { result + 1 < 2 ^ 30 }
 {
-    MOST_GAPS.min(room.saturating_add(LEAST_GROWTH.max(room / 4)))
+    MOST_GAPS.min(room.saturating_add(LEAST_GROWTH.max(room / 32)))
 }
 
 /// How many digits serve that many gaps. Each digit more halves the gaps of a class, and doubles the table of the classes.
@@ -145,7 +145,7 @@ impl GapIndex {
         self.thread.gap(last).length
     }
 
-    /// Makes room for that many gaps in all. A refusal changes nothing.
+    /// Makes room for that many gaps in all, at most 1,073,741,822. A refusal changes nothing.
     #[inline(always)]
     pub fn reserve_to(&mut self, count: usize) -> Result<(), AllocError>
         ensures same { self.new.gaps ≡ self.old.gaps }
@@ -158,6 +158,20 @@ impl GapIndex {
         if count <= self.thread.room() {
             return Ok(());
         }
+        self.grow_to(count)
+    }
+
+    /// The same where there is no room for that many yet. Out of line: few calls come here.
+    #[cold]
+    #[inline(never)]
+    fn grow_to(&mut self, count: usize) -> Result<(), AllocError>
+        requires more { self.old.room < count }
+        ensures same { self.new.gaps ≡ self.old.gaps }
+        ensures room { OnOk result (count ≤ self.new.room) }
+        ensures kept { self.old.room ≤ self.new.room }
+        ensures longest { self.new.longest ≡ self.old.longest }
+        ensures refused { OnErr result (self.new ≡ self.old) }
+    {
         if count > MOST_GAPS {
             return Err(AllocError);
         }
@@ -171,7 +185,7 @@ impl GapIndex {
 
     /// Makes room for that many gaps in all, with the same classes. A refusal changes nothing.
     fn widen(&mut self, count: usize) -> Result<(), AllocError>
-        requires few { count + 1 < 2 ^ 31 }
+        requires few { count + 1 < 2 ^ 30 }
         ensures same { self.new.gaps ≡ self.old.gaps }
         ensures room { OnOk result (count ≤ self.new.room) }
         ensures kept { self.old.room ≤ self.new.room }
@@ -184,7 +198,7 @@ impl GapIndex {
 
     /// The same gaps, with classes for that many, and with room for them.
     fn made_anew(&self, count: usize) -> Result<GapIndex, AllocError>
-        requires few { count + 1 < 2 ^ 31 }
+        requires few { count + 1 < 2 ^ 30 }
         requires enough { self.now.room ≤ count }
         ensures same { IfOk result (λ i. i.gaps ≡ self.now.gaps) }
         ensures room { IfOk result (λ i. count ≤ i.room) }
@@ -213,14 +227,15 @@ impl GapIndex {
             length: size,
             start: 0,
         };
-        let near = look_near(&self.thread, &self.forest, key);
+        let class = self.forest.class(key);
+        let near = look_near(&self.thread, &self.forest, key, class);
         match near {
             Nearby::Nothing => {}
             _ => cost.compare(),
         }
         Scan::new(
             &self.thread,
-            next_from(&self.thread, &self.forest, key, near),
+            next_from(&self.thread, &self.forest, key, class, near),
         )
     }
 
@@ -232,7 +247,8 @@ impl GapIndex {
         ensures room { self.new.room ≡ self.old.room }
         ensures longest { self.new.longest ≡ self.old.longest }
     {
-        put(&mut self.thread, &mut self.forest, gap);
+        let class = self.forest.class(key_of(&gap));
+        put(&mut self.thread, &mut self.forest, gap, class);
     }
 
     /// Takes the gap of that length and start away.
@@ -243,7 +259,12 @@ impl GapIndex {
         ensures room { self.new.room ≡ self.old.room }
         ensures longest { self.new.longest ≡ self.old.longest }
     {
-        take(&mut self.thread, &mut self.forest, size, start);
+        let key = Key {
+            length: size,
+            start,
+        };
+        let class = self.forest.class(key);
+        take(&mut self.thread, &mut self.forest, key, class);
     }
 
     /// Puts a gap in its place, and the one of that length and start away. It takes no memory.

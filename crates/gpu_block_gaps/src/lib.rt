@@ -8,8 +8,10 @@ mod index;
 mod key;
 mod order;
 mod packed;
+mod packed_record;
 mod root;
 mod scan;
+mod tagged_slot;
 mod thread;
 mod tree;
 

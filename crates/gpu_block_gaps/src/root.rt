@@ -1,6 +1,6 @@
 //! The roots of the classes, in 4 bytes each.
 
-ghost use Rattle.std.specs.Prelude.{◌≡◌, Some, None, IfSome};
+ghost use Rattle.std.specs.Prelude.{◌≡◌, Some, None, IfSome, IsSome};
 ghost use Rattle.gpu_block_gaps.specs.Packed.{IsSmall};
 
 use crate::packed::Packed;
@@ -60,6 +60,16 @@ impl Root {
         if self.bits == EMPTY {
             return None;
         }
-        Some(Packed { bits: self.bits }.node())
+        Some(self.node_there())
+    }
+
+    /// The node of a root that is one.
+    #[inline(always)]
+    pub fn node_there(self) -> Node
+        requires { IsSome self }
+        ensures is { self ≡ Some result }
+        ensures small { IsSmall result }
+    {
+        Packed { bits: self.bits }.node()
     }
 }

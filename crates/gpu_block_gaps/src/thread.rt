@@ -7,22 +7,23 @@ ghost use Rattle.gpu_block_gaps.specs.Thread.{gap_in};
 ghost use Rattle.gpu_block_gaps.specs.Records.{next_in, prev_in, gap_of, order_of, LeadsTo, LeadsThrough, IsThread};
 
 use crate::index::Gap;
+use crate::packed_record::PackedRecord;
 use gpu_values::AllocationType;
 use std::alloc::{AllocError, Global};
 use std::marker::Model;
 
 /// A gap, and the slots of the ones before and behind it. Slot 0 has no gap, and stands before the first and behind the last.
 #[derive(Clone, Copy)]
-struct Record {
-    gap: Gap,
-    prev: u32,
-    next: u32,
+pub struct Record {
+    pub gap: Gap,
+    pub prev: u32,
+    pub next: u32,
 }
 
 /// Gaps in slots, threaded in an order. A gap keeps its slot until it is taken out.
 #[derive(Drop)]
 pub struct Thread {
-    records: Vec<Record>,
+    records: Vec<PackedRecord>,
     // The slots of no gap, but for slot 0.
     spare: Vec<u32>,
 }
@@ -43,37 +44,40 @@ impl Model for Thread {
 }
 
 /// Links a slot to the one behind it.
-fn set_next(records: &mut [Record], slot: u32, next: u32)
-    requires { slot < length records.old }
+fn set_next(records: &mut [PackedRecord], slot: u32, next: u32)
+    requires slot { slot < length records.old }
+    requires next { next < 2 ^ 30 }
     ensures next { LeadsTo (next_in records.old) (next_in records.new) slot next }
     ensures prev { (k : ℕ) → prev_in records.new k ≡ prev_in records.old k }
     ensures gaps { map gap_of records.new ≡ map gap_of records.old }
 {
-    records[slot as usize].next = next;
+    records[slot as usize].set_next(next);
 }
 
 /// Links a slot to the one before it.
-fn set_prev(records: &mut [Record], slot: u32, prev: u32)
-    requires { slot < length records.old }
+fn set_prev(records: &mut [PackedRecord], slot: u32, prev: u32)
+    requires slot { slot < length records.old }
+    requires prev { prev < 2 ^ 30 }
     ensures prev { LeadsTo (prev_in records.old) (prev_in records.new) slot prev }
     ensures next { (k : ℕ) → next_in records.new k ≡ next_in records.old k }
     ensures gaps { map gap_of records.new ≡ map gap_of records.old }
 {
-    records[slot as usize].prev = prev;
+    records[slot as usize].set_prev(prev);
 }
 
 /// Puts another gap into a slot.
-fn set_gap(records: &mut [Record], slot: u32, gap: Gap)
+fn set_gap(records: &mut [PackedRecord], slot: u32, gap: Gap)
     requires { slot < length records.old }
     ensures next { (k : ℕ) → next_in records.new k ≡ next_in records.old k }
     ensures prev { (k : ℕ) → prev_in records.new k ≡ prev_in records.old k }
     ensures gaps { map gap_of records.new ≡ slice_set (map gap_of records.old) slot gap }
 {
-    records[slot as usize].gap = gap;
+    records[slot as usize].set_gap(gap);
 }
 
 /// Puts a record into a slot, and links the slots beside it to that.
-fn link(records: &mut [Record], slot: u32, entry: Record)
+fn link(records: &mut [PackedRecord], slot: u32, entry: Record)
+    requires few { length records.old < 2 ^ 30 }
     requires slot { slot < length records.old }
     requires prev { (entry.prev < length records.old) × (entry.prev ≢ slot) }
     requires next { (entry.next < length records.old) × (entry.next ≢ slot) }
@@ -83,13 +87,13 @@ fn link(records: &mut [Record], slot: u32, entry: Record)
         entry.prev }
     ensures gaps { map gap_of records.new ≡ slice_set (map gap_of records.old) slot entry.gap }
 {
-    records[slot as usize] = entry;
+    records[slot as usize] = PackedRecord::new(entry);
     set_next(records, entry.prev, slot);
     set_prev(records, entry.next, slot);
 }
 
 /// Links the slots beside a slot to each other.
-fn unlink(records: &mut [Record], slot: u32)
+fn unlink(records: &mut [PackedRecord], slot: u32)
     requires slot { slot < length records.old }
     requires prev { prev_in records.old slot < length records.old }
     requires next { next_in records.old slot < length records.old }
@@ -100,14 +104,15 @@ fn unlink(records: &mut [Record], slot: u32)
     ensures gaps { map gap_of records.new ≡ map gap_of records.old }
 {
     let record = records[slot as usize];
-    set_next(records, record.prev, record.next);
-    set_prev(records, record.next, record.prev);
+    let (prev, next) = (record.prev(), record.next());
+    set_next(records, prev, next);
+    set_prev(records, next, prev);
 }
 
 /// Adds a slot. There is room for it.
-fn add_slot(records: &mut Vec<Record>, spare: &mut Vec<u32>)
+fn add_slot(records: &mut Vec<PackedRecord>, spare: &mut Vec<u32>)
     requires thread { IsThread records.old.items spare.old.items (vec_capacity spare.old) }
-    requires few { vec_len records.old + 1 < 2 ^ 31 }
+    requires few { vec_len records.old + 1 < 2 ^ 30 }
     requires records { vec_len records.old < vec_capacity records.old }
     requires spare { vec_len records.old < vec_capacity spare.old }
     ensures thread { IsThread records.new.items spare.new.items (vec_capacity spare.new) }
@@ -128,17 +133,17 @@ fn add_slot(records: &mut Vec<Record>, spare: &mut Vec<u32>)
         before: AllocationType::Free,
         after: AllocationType::Free,
     };
-    records.push_reserved(Record {
+    records.push_reserved(PackedRecord::new(Record {
         gap,
         prev: 0,
         next: 0,
-    });
+    }));
 }
 
 /// Adds slots up to that count. There is room for them.
-fn fill(records: &mut Vec<Record>, spare: &mut Vec<u32>, count: usize)
+fn fill(records: &mut Vec<PackedRecord>, spare: &mut Vec<u32>, count: usize)
     requires thread { IsThread records.old.items spare.old.items (vec_capacity spare.old) }
-    requires few { count < 2 ^ 31 }
+    requires few { count < 2 ^ 30 }
     requires records { count ≤ vec_capacity records.old }
     requires spare { count ≤ vec_capacity spare.old }
     ensures thread { IsThread records.new.items spare.new.items (vec_capacity spare.new) }
@@ -186,7 +191,7 @@ impl Thread {
         requires { slot < length self.now.gaps }
         ensures { result ≡ gap_in self.now.gaps slot }
     {
-        self.records[slot as usize].gap
+        self.records[slot as usize].gap()
     }
 
     /// The slot behind one, 0 at the end; at 0 the first one.
@@ -195,7 +200,7 @@ impl Thread {
             → result ≡ slice_index self.now.order k }
     {
         match self.records.get(slot as usize) {
-            Some(record) => record.next,
+            Some(record) => record.next(),
             None => 0,
         }
     }
@@ -206,14 +211,14 @@ impl Thread {
             → result ≡ slice_index (0 ∷ self.now.order) k }
     {
         match self.records.get(slot as usize) {
-            Some(record) => record.prev,
+            Some(record) => record.prev(),
             None => 0,
         }
     }
 
     /// Makes room for that many gaps in all. A refusal changes nothing.
     pub fn reserve_to(&mut self, count: usize) -> Result<(), AllocError>
-        requires { count + 1 < 2 ^ 31 }
+        requires { count + 1 < 2 ^ 30 }
         ensures order { self.new.order ≡ self.old.order }
         ensures gaps { (k : ℕ) → gap_in self.new.gaps k ≡ gap_in self.old.gaps k }
         ensures room { OnOk result (count < length self.new.gaps) }
@@ -245,7 +250,7 @@ impl Thread {
         let Some(slot) = self.spare.pop() else {
             unreachable!()
         };
-        let prev = self.records[next as usize].prev;
+        let prev = self.records[next as usize].prev();
         link(&mut self.records, slot, Record { gap, prev, next });
         slot
     }

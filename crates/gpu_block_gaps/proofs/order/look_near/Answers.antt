@@ -11,8 +11,8 @@ returns-in_default c = λ trees are. MatchOption-at_none _ _ c.in_default.is (c.
 
 pub gap-requires : goal.gap-requires
 gap-requires c =
-    let trees = c.requires.0 in
-    let are = c.requires.1 in
+    let trees = c.requires.indexed.0 in
+    let are = c.requires.indexed.1 in
     let near = MatchOption-at_some _ _ c.in-Some.slot c.in-Some.is (c.near.ensures (key_in c.args.thread.now.gaps) trees are.forest) in
     let inside = near_in c.args.thread.now c.args.forest.now trees are (code_of c.args.key) _ near.0 near.1 in
     (c.sound.ensures.inside c.in-Some.slot (subst (λ l. IsIn l c.args.thread.now.order) (sym near.2) inside)).1

@@ -16,7 +16,7 @@ seen rs spare' spare room' room same capacity made = (
 
 both : (c : After-push_reserved-2) → IsThread c.push_reserved-2.new.self.items c.if-not-is_empty.spare.items (vec_capacity c.if-not-is_empty.spare) × (order_of c.push_reserved-2.new.self.items ≡ order_of c.args.records.now.items)
 both c =
-    subst (λ (rs : List Record). IsThread rs c.if-not-is_empty.spare.items (vec_capacity c.if-not-is_empty.spare) × (order_of rs ≡ order_of c.args.records.now.items)) (sym c.push_reserved-2.ensures.items) (
+    subst (λ (rs : List Record). IsThread rs c.if-not-is_empty.spare.items (vec_capacity c.if-not-is_empty.spare) × (order_of rs ≡ order_of c.args.records.now.items)) (sym (c.push_reserved-2.ensures.items ∙ ap (λ (r : Record). c.args.records.now.items ++ r ∷ []) c.new.ensures)) (
     elim c.if-not-is_empty.branch [
       | then-not-is_empty w ↦ (
           let some : 0 < length c.args.records.now.items = grind (arith, nat_tests) in

@@ -7,19 +7,18 @@ use Rattle.gpu_block_gaps.proofs.forest.Forest.first_later.Goals as goal
 
 pub first-requires : goal.first-requires
 first-requires c =
-    let there = tree_there c.requires.0 _ _ _ _ _ _ c.requires.1 c.requires.2 c.in_ok-class.class c.in-Some.root (sym c.in-Some.ensures.is) in
-    (there.tree, subst (λ (fs : List Fork). Lays (slice_get fs) 128 c.in-Some.root there.tree) (sym c.deref.ensures.value) there.laid)
+    let there = tree_there c.requires.forest.0 _ _ _ _ _ _ c.requires.forest.1 c.requires.forest.2 c.in_ok-later.later c.root_of-root.result c.root_of-root.ensures.is in
+    (there.tree, subst (λ (fs : List Fork). Lays (slice_get fs) 128 c.root_of-root.result there.tree) (sym c.deref.ensures.value) there.laid)
 
 pub returns : goal.returns
 returns c = λ key trees are.
-    let there = tree_there key _ _ _ _ _ _ trees are c.in_ok-class.class c.in-Some.root (sym c.in-Some.ensures.is) in
-    let found = c.in_ok-class.ensures in
-    let class = c.class.ensures.class in
+    let there = tree_there key _ _ _ _ _ _ trees are c.in_ok-later.later c.root_of-root.result c.root_of-root.ensures.is in
+    let found = c.in_ok-later.ensures in
     record {
-      next = c.in_ok-class.class;
+      next = c.in_ok-later.later;
       tree = there.tree;
       later = (let behind = found.behind in omega arith);
       is = there.is;
-      first = c.first.ensures there.tree (subst (λ (fs : List Fork). Lays (slice_get fs) 128 c.in-Some.root there.tree) (sym c.deref.ensures.value) there.laid);
+      first = c.first.ensures there.tree (subst (λ (fs : List Fork). Lays (slice_get fs) 128 c.root_of-root.result there.tree) (sym c.deref.ensures.value) there.laid);
       none = λ d after before. none_outside key _ _ _ _ _ _ trees are d (found.least d (omega arith) before);
     }

@@ -13,36 +13,36 @@ use Rattle.gpu_block_gaps.proofs.forest.Forest.insert_beside.Goals as goal
 pub insert-root-requires-clause-laid : goal.insert-root-requires-clause-laid
 insert-root-requires-clause-laid c =
     let known = c.requires.there in
-    let there = tree_there known.0 _ _ _ _ _ _ known.1 known.2 c.class-class.result c.in-Some-Some.root (sym c.in-Some-Some.ensures.is) in
-    (there.tree, subst (λ (fs : List Fork). Lays (slice_get fs) 128 c.in-Some-Some.root there.tree) (sym c.deref_mut.ensures.value) there.laid)
+    let there = tree_there known.0 _ _ _ _ _ _ known.1 known.2 c.args.class c.root_of-node.result c.root_of-node.ensures.is in
+    (there.tree, subst (λ (fs : List Fork). Lays (slice_get fs) 128 c.root_of-node.result there.tree) (sym c.deref_mut.ensures.value) there.laid)
 
 pub insert-root-requires-clause-slot : goal.insert-root-requires-clause-slot
 insert-root-requires-clause-slot c =
     let known = c.requires.there in
-    let free = slot_vacant known.0 _ _ _ _ _ _ known.1 known.2 c.pop.new.self.items c.in-Some-Some.slot c.in-Some-Some.ensures'.items in
+    let free = slot_vacant known.0 _ _ _ _ _ _ known.1 known.2 c.pop.new.self.items c.in-Some.slot c.in-Some.ensures.items in
     let short = known.2.short in
     let within = free.0 in
-    (subst (λ (fs : List Fork). c.in-Some-Some.slot < length fs) (sym c.deref_mut.ensures.value) free.0, omega arith)
+    (subst (λ (fs : List Fork). c.in-Some.slot < length fs) (sym c.deref_mut.ensures.value) free.0, omega arith)
 
 pub returns-clause-trees : goal.returns-clause-trees
 returns-clause-trees c = λ key trees t are has is split.
     let self = c.args.self.now in
-    let class = c.class-class.ensures.class in
-    let slot = c.in-Some-Some.slot in
-    let was = c.in-Some-Some.ensures'.items in
-    let rooted = sym c.in-Some-Some.ensures.is in
-    let within : c.class-class.result < length self.roots.items = root_within self.roots.items c.class-class.result c.in-Some-Some.root (sym c.in-Some-Some.ensures.is) in
-    let there : tree_at trees c.class-class.result ≡ Some t = ap (tree_at trees) class ∙ is in
+    let class = c.requires.class in
+    let slot = c.in-Some.slot in
+    let was = c.in-Some.ensures.items in
+    let rooted = c.root_of-node.ensures.is in
+    let within : c.args.class < length self.roots.items = root_within self.roots.items c.args.class c.root_of-node.result c.root_of-node.ensures.is in
+    let there : tree_at trees c.args.class ≡ Some t = ap (tree_at trees) class ∙ is in
     let n = code_of c.args.key in
-    let can = beside_can key _ _ _ _ _ _ trees are c.pop.new.self.items slot c.class-class.result c.in-Some-Some.root t n c.args.bit was rooted there split c.requires.bit in
+    let can = beside_can key _ _ _ _ _ _ trees are c.pop.new.self.items slot c.args.class c.root_of-node.result t n c.args.bit was rooted there split c.requires.bit in
     let value = c.deref_mut.ensures.value in
     let leaf = c.args.leaf in
     let bit = c.args.bit in
-    let node = c.in-Some-Some.root in
+    let node = c.root_of-node.result in
     let node' = c.insert-root.result in
     let forks' = c.insert-root.new.forks in
     let spare' = c.pop.new.self.items in
-    let at = c.class-class.result in
+    let at = c.args.class in
     let new = grown n bit leaf slot t in
     let can' : CanGrow key (slice_get c.deref_mut.result.now) 128 node t n bit slot = subst (λ (fs : List Fork). CanGrow key (slice_get fs) 128 node t n bit slot) (sym value) can in
     let grew : HasGrown (slice_get self.forks.items) (slice_get forks') 128 node' t new slot =
@@ -51,7 +51,7 @@ returns-clause-trees c = λ key trees t are has is split.
     let planted = beside_planted key _ _ _ _ _ _ trees are forks' spare' slot at node node' t n bit leaf was rooted there split class within has long grew in
     let rooted' = subst (λ (r : Option Node). AreTrees key self.scale forks' spare' (vec_capacity self.spare) (set self.roots.items at r) self.classes (set trees at (Some new))) (sym c.at.ensures) planted in
     let moved = with_items_is self.forks forks' (let a = c.insert-root.auto.forks in let b = c.deref_mut.ensures.len in omega arith) in
-    let room = c.in-Some-Some.ensures'.capacity in (
+    let room = c.in-Some.ensures.capacity in (
       new,
       subst (λ (fs : List Fork). AreTrees key self.scale fs spare' (vec_capacity c.pop.new.self) (set self.roots.items at c.at.result) self.classes
           (set trees (class_in self.scale n) (Some new))) (sym moved)

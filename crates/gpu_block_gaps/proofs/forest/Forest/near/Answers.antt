@@ -8,13 +8,13 @@ use Rattle.gpu_block_gaps.proofs.forest.Forest.near.Goals as goal
 
 pub nearest-requires : goal.nearest-requires
 nearest-requires c =
-    let there = tree_there c.requires.0 _ _ _ _ _ _ c.requires.1 c.requires.2 c.class.result c.in_ok-root.root (sym c.in_ok-root.ensures.is) in
+    let there = tree_there c.requires.forest.0 _ _ _ _ _ _ c.requires.forest.1 c.requires.forest.2 c.args.class c.in_ok-root.root (sym c.in_ok-root.ensures.is) in
     (there.tree, subst (λ (fs : List Fork). Lays (slice_get fs) 128 c.in_ok-root.root there.tree) (sym c.deref.ensures.value) there.laid)
 
 pub returns : goal.returns
 returns c = λ key trees are.
-    let there = tree_there key _ _ _ _ _ _ trees are c.class.result c.in_ok-root.root (sym c.in_ok-root.ensures.is) in (
+    let there = tree_there key _ _ _ _ _ _ trees are c.args.class c.in_ok-root.root (sym c.in_ok-root.ensures.is) in (
       there.tree,
-      ap (tree_at trees) (sym c.class.ensures.class) ∙ there.is,
+      ap (tree_at trees) (sym c.requires.class) ∙ there.is,
       c.nearest.ensures there.tree (subst (λ (fs : List Fork). Lays (slice_get fs) 128 c.in_ok-root.root there.tree) (sym c.deref.ensures.value) there.laid),
     )

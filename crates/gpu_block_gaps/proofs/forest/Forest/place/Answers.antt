@@ -10,12 +10,12 @@ use Rattle.gpu_block_gaps.proofs.forest.Forest.place.Goals as goal
 pub place_of-requires-clause-laid : goal.place_of-requires-clause-laid
 place_of-requires-clause-laid c =
     let known = c.requires.there in
-    let there = tree_there known.0 _ _ _ _ _ _ known.1 known.2 c.class.result c.in-Some.root (sym c.in-Some.ensures.is) in
-    (there.tree, subst (λ (fs : List Fork). Lays (slice_get fs) 128 c.in-Some.root there.tree) (sym c.deref.ensures.value) there.laid)
+    let there = tree_there known.0 _ _ _ _ _ _ known.1 known.2 c.args.class c.root_of-root.result c.root_of-root.ensures.is in
+    (there.tree, subst (λ (fs : List Fork). Lays (slice_get fs) 128 c.root_of-root.result there.tree) (sym c.deref.ensures.value) there.laid)
 
 pub returns : goal.returns
 returns c = λ key trees t are is split.
-    let there = tree_there key _ _ _ _ _ _ trees are c.class.result c.in-Some.root (sym c.in-Some.ensures.is) in
-    let same : there.tree ≡ t = same_Some _ _ (sym there.is ∙ ap (tree_at trees) c.class.ensures.class ∙ is) in
-    let laid = subst (λ (fs : List Fork). Lays (slice_get fs) 128 c.in-Some.root there.tree) (sym c.deref.ensures.value) there.laid in
-    c.place_of.ensures key t (subst (Lays (slice_get c.deref.result.now) 128 c.in-Some.root) same laid) split
+    let there = tree_there key _ _ _ _ _ _ trees are c.args.class c.root_of-root.result c.root_of-root.ensures.is in
+    let same : there.tree ≡ t = same_Some _ _ (sym there.is ∙ ap (tree_at trees) c.requires.class ∙ is) in
+    let laid = subst (λ (fs : List Fork). Lays (slice_get fs) 128 c.root_of-root.result there.tree) (sym c.deref.ensures.value) there.laid in
+    c.place_of.ensures key t (subst (Lays (slice_get c.deref.result.now) 128 c.root_of-root.result) same laid) split

@@ -19,37 +19,37 @@ fork_there slots u at laid = let there = fork_at slots 128 (Branch at) u at laid
 
 pub remove-cut-requires-clause-laid : goal.remove-cut-requires-clause-laid
 remove-cut-requires-clause-laid c =
-    let known = c.requires in
-    let read = c.root.ensures.is in
-    let rooted : root_at c.args.self.now.roots.items c.class-class.result ≡ Some (Branch c.in-Some-Branch.slot) = cc in
-    let there = tree_there known.0 _ _ _ _ _ _ known.1 known.2 c.class-class.result (Branch c.in-Some-Branch.slot) rooted in
-    (there.tree, subst (λ (fs : List Fork). Lays (slice_get fs) 128 (Branch c.in-Some-Branch.slot) there.tree) (sym c.deref_mut.ensures.value) there.laid)
+    let known = c.requires.there in
+    let read = c.root_of.ensures.is in
+    let rooted : root_at c.args.self.now.roots.items c.args.class ≡ Some (Branch c.in-Branch.slot) = cc in
+    let there = tree_there known.0 _ _ _ _ _ _ known.1 known.2 c.args.class (Branch c.in-Branch.slot) rooted in
+    (there.tree, subst (λ (fs : List Fork). Lays (slice_get fs) 128 (Branch c.in-Branch.slot) there.tree) (sym c.deref_mut.ensures.value) there.laid)
 
 pub push_reserved-requires : goal.push_reserved-requires
 push_reserved-requires c =
-    let known = c.requires in
-    let read = c.root.ensures.is in
-    let rooted : root_at c.args.self.now.roots.items c.class-class.result ≡ Some (Branch c.in-Some-Branch.slot) = cc in
-    let there = tree_there known.0 _ _ _ _ _ _ known.1 known.2 c.class-class.result (Branch c.in-Some-Branch.slot) rooted in
+    let known = c.requires.there in
+    let read = c.root_of.ensures.is in
+    let rooted : root_at c.args.self.now.roots.items c.args.class ≡ Some (Branch c.in-Branch.slot) = cc in
+    let there = tree_there known.0 _ _ _ _ _ _ known.1 known.2 c.args.class (Branch c.in-Branch.slot) rooted in
     let room : length c.args.self.now.spare.items < vec_capacity c.args.self.now.spare =
-    spare_room known.0 _ _ _ _ _ _ known.1 known.2 c.class-class.result there.tree there.is (fork_there _ there.tree c.in-Some-Branch.slot there.laid) in
+    spare_room known.0 _ _ _ _ _ _ known.1 known.2 c.args.class there.tree there.is (fork_there _ there.tree c.in-Branch.slot there.laid) in
     search rules
 
-pub returns-in-Some-Branch-clause-trees : goal.returns-in-Some-Branch-clause-trees
-returns-in-Some-Branch-clause-trees c = λ key trees t are is.
+pub returns-in-Branch-clause-trees : goal.returns-in-Branch-clause-trees
+returns-in-Branch-clause-trees c = λ key trees t are is.
     let self = c.args.self.now in
-    let class = c.class-class.ensures.class in
-    let at = c.class-class.result in
-    let node = Branch c.in-Some-Branch.slot in
-    let read = c.root.ensures.is in
-    let rooted : root_at c.args.self.now.roots.items c.class-class.result ≡ Some (Branch c.in-Some-Branch.slot) = cc in
+    let class = c.requires.class in
+    let at = c.args.class in
+    let node = Branch c.in-Branch.slot in
+    let read = c.root_of.ensures.is in
+    let rooted : root_at c.args.self.now.roots.items c.args.class ≡ Some (Branch c.in-Branch.slot) = cc in
     let within : at < length self.roots.items = root_within self.roots.items at node rooted in
     let found : tree_at trees at ≡ Some t = ap (tree_at trees) class ∙ is in
     let there = tree_there key _ _ _ _ _ _ trees are at node rooted in
     let same : there.tree ≡ t = same_Some _ _ (sym there.is ∙ found) in
     let laid : Lays (slice_get self.forks.items) 128 node t = subst (Lays (slice_get self.forks.items) 128 node) same there.laid in
     let sorted : Sorted key t = subst (Sorted key) same there.sorted in
-    let more = fork_there (slice_get self.forks.items) t c.in-Some-Branch.slot laid in
+    let more = fork_there (slice_get self.forks.items) t c.in-Branch.slot laid in
     let n = code_of c.args.key in
     let value = c.deref_mut.ensures.value in
     let forks' = c.remove-cut.new.forks in
@@ -75,14 +75,14 @@ returns-in-Some-Branch-clause-trees c = λ key trees t are is.
       without_leaf key n t sorted more,
     )
 
-pub returns-in-Some-Leaf-clause-trees : goal.returns-in-Some-Leaf-clause-trees
-returns-in-Some-Leaf-clause-trees c = λ key trees t are is.
+pub returns-in-Leaf-clause-trees : goal.returns-in-Leaf-clause-trees
+returns-in-Leaf-clause-trees c = λ key trees t are is.
     let self = c.args.self.now in
-    let class = c.class-class.ensures.class in
-    let at = c.class-class.result in
-    let leaf = c.in-Some-Leaf.leaf in
-    let read = c.root.ensures.is in
-    let rooted : root_at c.args.self.now.roots.items c.class-class.result ≡ Some (Leaf c.in-Some-Leaf.leaf) = cc in
+    let class = c.requires.class in
+    let at = c.args.class in
+    let leaf = c.in-Leaf.leaf in
+    let read = c.root_of.ensures.is in
+    let rooted : root_at c.args.self.now.roots.items c.args.class ≡ Some (Leaf c.in-Leaf.leaf) = cc in
     let within : at < length self.roots.items = root_within self.roots.items at (Leaf leaf) rooted in
     let there = tree_there key _ _ _ _ _ _ trees are at (Leaf leaf) rooted in
     let same : there.tree ≡ t = same_Some _ _ (sym there.is ∙ ap (tree_at trees) class ∙ is) in
@@ -97,26 +97,26 @@ returns-in-Some-Leaf-clause-trees c = λ key trees t are is.
       subst (λ (u : Tree). u ≡ tip (near n u)) (sym whole) refl,
     )
 
-pub returns-in-Some-Branch-clause-leaf : goal.returns-in-Some-Branch-clause-leaf
-returns-in-Some-Branch-clause-leaf c = λ key trees t are is.
-    let class = c.class-class.ensures.class in
-    let at = c.class-class.result in
-    let node = Branch c.in-Some-Branch.slot in
-    let read = c.root.ensures.is in
-    let rooted : root_at c.args.self.now.roots.items c.class-class.result ≡ Some (Branch c.in-Some-Branch.slot) = cc in
+pub returns-in-Branch-clause-leaf : goal.returns-in-Branch-clause-leaf
+returns-in-Branch-clause-leaf c = λ key trees t are is.
+    let class = c.requires.class in
+    let at = c.args.class in
+    let node = Branch c.in-Branch.slot in
+    let read = c.root_of.ensures.is in
+    let rooted : root_at c.args.self.now.roots.items c.args.class ≡ Some (Branch c.in-Branch.slot) = cc in
     let there = tree_there key _ _ _ _ _ _ trees are at node rooted in
     let same : there.tree ≡ t = same_Some _ _ (sym there.is ∙ ap (tree_at trees) class ∙ is) in
     let laid : Lays (slice_get c.args.self.now.forks.items) 128 node t = subst (Lays (slice_get c.args.self.now.forks.items) 128 node) same there.laid in
     c.remove-cut.ensures.leaf t (subst (λ (fs : List Fork). Lays (slice_get fs) 128 node t) (sym c.deref_mut.ensures.value) laid)
 
-pub returns-in-Some-Leaf-clause-leaf : goal.returns-in-Some-Leaf-clause-leaf
-returns-in-Some-Leaf-clause-leaf c = λ key trees t are is.
+pub returns-in-Leaf-clause-leaf : goal.returns-in-Leaf-clause-leaf
+returns-in-Leaf-clause-leaf c = λ key trees t are is.
     let self = c.args.self.now in
-    let class = c.class-class.ensures.class in
-    let at = c.class-class.result in
-    let leaf = c.in-Some-Leaf.leaf in
-    let read = c.root.ensures.is in
-    let rooted : root_at c.args.self.now.roots.items c.class-class.result ≡ Some (Leaf c.in-Some-Leaf.leaf) = cc in
+    let class = c.requires.class in
+    let at = c.args.class in
+    let leaf = c.in-Leaf.leaf in
+    let read = c.root_of.ensures.is in
+    let rooted : root_at c.args.self.now.roots.items c.args.class ≡ Some (Leaf c.in-Leaf.leaf) = cc in
     let there = tree_there key _ _ _ _ _ _ trees are at (Leaf leaf) rooted in
     let same : there.tree ≡ t = same_Some _ _ (sym there.is ∙ ap (tree_at trees) class ∙ is) in
     let alone : there.tree ≡ tip leaf = tip_at (slice_get self.forks.items) 128 (Leaf leaf) there.tree leaf there.laid refl in

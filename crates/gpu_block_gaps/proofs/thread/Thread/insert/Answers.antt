@@ -21,8 +21,8 @@ index-requires c =
 pub link-requires-clause-prev : goal.link-requires-clause-prev
 link-requires-clause-prev c =
     let there = c.requires.there in
-    let at = prev_at c.self.inside.records.items c.deref_mut.result.now c.self.inside.records.items c.self.inside.spare.items c.pop.new.self.items c.in-Some.slot (vec_capacity c.self.inside.spare) (vec_capacity c.pop.new.self) c.args.next c.args.self.now.order there.0 c.index.result.now c.self.invariant (ap (λ (t : Threaded). t.order) c.self.view_is) c.in-Some.ensures.items there.1 there.2 c.index.ensures in
-    (subst (λ (rs : List Record). c.index.result.now.prev < length rs) (sym c.deref_mut.ensures.value) at.0, at.1)
+    let at = prev_at c.self.inside.records.items c.deref_mut.result.now c.self.inside.records.items c.self.inside.spare.items c.pop.new.self.items c.in-Some.slot (vec_capacity c.self.inside.spare) (vec_capacity c.pop.new.self) c.args.next c.args.self.now.order there.0 c.index.result.now c.self.invariant (ap (λ (t : Threaded). t.order) c.self.view_is) c.in-Some.ensures.items there.1 there.2 c.index.ensures c.prev-prev.result c.prev-prev.ensures.is in
+    (subst (λ (rs : List Record). c.prev-prev.result < length rs) (sym c.deref_mut.ensures.value) at.0, at.1)
 
 pub link-requires-clause-next : goal.link-requires-clause-next
 link-requires-clause-next c =
@@ -35,7 +35,7 @@ left : (c : After-self-1) (k : ℕ) → k ≤ length c.args.self.now.order → c
     → IsThread c.link.new.records c.pop.new.self.items (vec_capacity c.pop.new.self) × (order_of c.link.new.records ≡ insert c.args.self.now.order k c.in-Some.slot)
 left c k le there =
     inserted c.self.inside.records.items c.deref_mut.result.now c.link.new.records c.self.inside.spare.items c.pop.new.self.items c.in-Some.slot (vec_capacity c.self.inside.spare) (vec_capacity c.pop.new.self) c.args.next c.args.self.now.order k c.index.result.now c.self.invariant
-    (ap (λ (t : Threaded). t.order) c.self.view_is) c.in-Some.ensures.items le there c.index.ensures c.in-Some.ensures.capacity c.deref_mut.ensures.value c.link.ensures.next c.link.ensures.prev
+    (ap (λ (t : Threaded). t.order) c.self.view_is) c.in-Some.ensures.items le there c.index.ensures c.prev-prev.result c.prev-prev.ensures.is c.in-Some.ensures.capacity c.deref_mut.ensures.value c.link.ensures.next c.link.ensures.prev
     (let a = c.link.auto.records in omega arith)
 
 moved : (c : After-self-1) → (with_items c.self.inside.records c.link.new.records).items ≡ c.link.new.records
