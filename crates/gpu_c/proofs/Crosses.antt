@@ -1,11 +1,11 @@
 -- What lies behind the handles of the C library may go to another thread: each of its types names no thread's token.
 use denote.RattleType.{RattleType}
 use denote.Param.Send.{IsSend, sendable}
-use denote.Builtin.{bool, u32, u64, usize}
+use denote.Builtin.{bool, u64, usize}
 use Rattle.core.specs.declared.cmp.PartialEq as eq
 use Rattle.core.specs.contracts.option.Option as Option
 use Rattle.std.proofs.Crossing as heap
-use Rattle.std.proofs.Crossing.{Vec-send}
+use Rattle.std.proofs.Crossing.{Vec-send, Box-send}
 use Rattle.std_alloc.specs.contracts.string.String as String
 use Rattle.std_heap.specs.contracts.Global as Heap
 use Rattle.std_heap.specs.contracts.GlobalAllocator.TheImpl.{ghosts}
@@ -13,17 +13,17 @@ use Rattle.gpu_block_gaps.specs.contracts.class_set.ClassSet as ClassSet
 use Rattle.gpu_block_gaps.specs.contracts.forest.Forest as Forest
 use Rattle.gpu_block_gaps.specs.contracts.tree.Fork as Fork
 use Rattle.gpu_block_gaps.specs.contracts.tree.Node as Node
-use Rattle.gpu_block_gaps.specs.contracts.index.Gap as Gap
 use Rattle.gpu_block_gaps.specs.contracts.index.GapIndex as GapIndex
-use Rattle.gpu_block_gaps.specs.contracts.thread.Record as Record
+use Rattle.gpu_block_gaps.specs.contracts.packed_record.PackedRecord as PackedRecord
+use Rattle.gpu_block_gaps.specs.contracts.tagged_slot.TaggedSlot as TaggedSlot
 use Rattle.gpu_block_gaps.specs.contracts.thread.Thread as Thread
 use Rattle.gpu_block_chunks.specs.contracts.name.Name as Name
 use Rattle.gpu_block_chunks.specs.contracts.chunk.Chunk as Chunk
 use Rattle.gpu_block_chunks.specs.contracts.chain.chunk_ids.ChunkIds as ChunkIds
-use Rattle.gpu_block_chunks.specs.contracts.chain.chunk_ids.Entry as Entry
-use Rattle.gpu_block_chunks.specs.contracts.chain.link.LinkedChunk as LinkedChunk
+use Rattle.gpu_block_chunks.specs.contracts.chain.entry_cell.EntryCell as EntryCell
 use Rattle.gpu_cost.specs.contracts.cost.Cost as Cost
-use Rattle.gpu_block_chunks.specs.contracts.chain.slots.Slot as Slot
+use Rattle.gpu_block_chunks.specs.contracts.chain.slot_link.SlotLink as SlotLink
+use Rattle.gpu_block_chunks.specs.contracts.chain.slots.Cell as Cell
 use Rattle.gpu_block_chunks.specs.contracts.chain.slots.Slots as Slots
 use Rattle.gpu_block_chunks.specs.contracts.chain.nodes.Nodes as Nodes
 use Rattle.gpu_block_chunks.specs.contracts.chain.Chain as Chain
@@ -60,14 +60,11 @@ name_send = search (sendable, Vec-send) depth 20
 chunk_send : IsSend (Chunk.the_field).row
 chunk_send = let n = name_send in search sendable depth 20
 
-linked_send : IsSend (LinkedChunk.the_field).row
-linked_send = let c = chunk_send in search sendable depth 20
+tagged_send : IsSend TaggedSlot.the_row
+tagged_send = search sendable depth 20
 
-gap_send : IsSend Gap.the_row
-gap_send = search sendable depth 20
-
-record_send : IsSend (Record.the_field).row
-record_send = let g = gap_send in search sendable depth 20
+record_send : IsSend PackedRecord.the_row
+record_send = let t = tagged_send in search sendable depth 20
 
 thread_send : IsSend Thread.the_row
 thread_send = let r = record_send in search (sendable, Vec-send) depth 20
@@ -90,11 +87,14 @@ forest_send = let f = fork_send in let r = root_send in let c = classes_send in 
 index_send : IsSend GapIndex.the_row
 index_send = let t = thread_send in let f = forest_send in search sendable depth 20
 
-slot_send : IsSend (Slot.the_field).row
-slot_send = let c = linked_send in search sendable depth 20
+link_send : IsSend SlotLink.the_row
+link_send = search sendable depth 20
+
+cell_send : IsSend (Cell.the_field).row
+cell_send = let l = link_send in search sendable depth 20
 
 slots_send : IsSend Slots.the_row
-slots_send = let s = slot_send in search (sendable, Vec-send) depth 20
+slots_send = let c = cell_send in let n = name_send in let l = link_send in search (sendable, Vec-send) depth 20
 
 pub key_send : IsSend u64
 key_send = search sendable
@@ -102,17 +102,11 @@ key_send = search sendable
 pub place_send : IsSend usize
 place_send = search sendable
 
-head_send : IsSend (Option.the_row u32)
-head_send = search sendable depth 20
-
-entry_send : IsSend Entry.the_row
-entry_send = search sendable depth 20
-
-entered_send : IsSend (Option.the_row Entry.the_row)
-entered_send = let e = entry_send in search sendable depth 20
+entry_send : IsSend EntryCell.the_row
+entry_send = let l = link_send in search sendable depth 20
 
 ids_send : IsSend ChunkIds.the_row
-ids_send = let h = head_send in let e = entered_send in search (sendable, Vec-send) depth 20
+ids_send = let l = link_send in let e = entry_send in search (sendable, Vec-send) depth 20
 
 nodes_send : IsSend Nodes.the_row
 nodes_send = let s = slots_send in let i = ids_send in search sendable depth 20
@@ -150,7 +144,7 @@ module _ (H : RattleType) (s : IsSend H) where
   rows_send = let l = live_send in let r = longest_send in search (sendable, Vec-send) depth 20
 
 room_send : IsSend PendingBlock.the_row
-room_send = let a = sub_send in search sendable depth 20
+room_send = let a = sub_send in search (sendable, Box-send) depth 20
 
 need_send : IsSend (NeedBlock.the_field).row
 need_send = let r = room_send in search sendable depth 20

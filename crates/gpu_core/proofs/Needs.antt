@@ -8,7 +8,7 @@ use Rattle.gpu_block_pieces.specs.Request.{Request}
 use Rattle.gpu_block_pieces.specs.Place.{HasNoPlace}
 use Rattle.gpu_block_pieces.specs.FreeList.{fresh_free_list}
 use Rattle.std.specs.Prelude.{IsNone}
-use Rattle.gpu_block.specs.Block.{Block, free_list, dedicated, size_of, is_shared, TakesIn, IsAllocateRefusalIn}
+use Rattle.gpu_block.specs.Block.{Block, free_list, dedicated, size_of, is_shared, HasPages, TakesIn, IsAllocateRefusalIn}
 use Rattle.gpu_core.specs.TypeTake.{fresh_block}
 use Rattle.gpu_block_pieces.proofs.OneOutcome.{chosen_once}
 use Rattle.gpu_block_pieces.proofs.Empty.{empty_chosen, empty_has_place}
@@ -63,6 +63,11 @@ fresh_error false size granularity r e exact le some h = fresh_list_error size g
 pub none_of : {A : Type 0} (o : Option A) → ((x : A) → o ≡ Some x → ⊥) → IsNone o
 none_of None h = refl
 none_of (Some x) h = absurd (h x refl)
+
+-- a new block has the pages that it is made with
+pub fresh_pages : (is_dedicated : Bool) (size granularity : ℕ) → HasPages (fresh_block is_dedicated size granularity) granularity
+fresh_pages true size granularity = tt
+fresh_pages false size granularity = refl
 
 -- what is taken of a fresh block begins at its start
 pub fresh_begins : (is_dedicated : Bool) (size granularity : ℕ) (r : Request) (o n : ℕ) (new : Block) → 0 < r.size → r.size ≤ size → TakesIn (fresh_block is_dedicated size granularity) r o n new → o

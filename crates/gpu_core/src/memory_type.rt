@@ -140,7 +140,9 @@ impl<H: Copy + Eq> MemoryType<H> {
 
     /// Puts in the block that `prepare` asked for, under the driver's handle of it, and answers the piece in it. It
     /// takes no memory and can't be refused. Its caller sees to it that there is room for the block, as `prepare` leaves it, and
-    /// that the sum of all blocks' sizes stays in 64 bits.
+    /// that the sum of all blocks' sizes stays in 64 bits. Out of line, as `make_pending` is.
+    #[cold]
+    #[inline(never)]
     pub fn install(&mut self, need: NeedBlock, handle: H) -> Piece<H>
         requires ready { CanInstall self.old need.size need.dedicated need.room }
         requires sum { capacity_of self.old.slots + need.size < 2 ^ 64 }
@@ -160,7 +162,7 @@ impl<H: Copy + Eq> MemoryType<H> {
         } = need;
         let block = LiveBlock {
             handle,
-            sub: room.sub,
+            sub: Box::into_inner(room.sub),
         };
         let slot = self.slots.put(block, dedicated);
         self.capacity += size;

@@ -18,7 +18,8 @@ use std::num::NonZeroU64;
 /// A new block with the request's piece taken in it. It waits for the device's memory; dropping it changes nothing.
 #[derive(Drop)]
 pub struct PendingBlock {
-    pub(crate) sub: SubAllocator,
+    // In a box, since what `prepare` answers is moved often, and mostly has no block.
+    pub(crate) sub: Box<SubAllocator>,
     pub(crate) chunk_id: NonZeroU64,
     pub(crate) offset: u64,
     pub(crate) size: u64,
@@ -32,7 +33,7 @@ impl Model for PendingBlock {
     ghost Value = { Pending };
 
     ghost view = { λ r. record {
-      block = block_of r.sub;
+      block = block_of r.sub.value;
       offset = r.offset;
       chunk_id =
           non_zero_u64_get r.chunk_id;
@@ -66,7 +67,10 @@ fn new_block(alloc: Global, is_dedicated: bool, size: u64, granularity: u64) -> 
     }
 }
 
-/// A new block with the request's piece in it. The only refusal is `HostOutOfMemory`.
+/// A new block with the request's piece in it. The only refusal is `HostOutOfMemory`. Out of line: few requests need a block, and the others
+/// shall not clear the stack for one.
+#[cold]
+#[inline(never)]
 pub fn make_pending(
     alloc: Global,
     is_dedicated: bool,
@@ -99,7 +103,7 @@ pub fn make_pending(
         request.name,
     ) {
         Ok((offset, chunk_id)) => Ok(PendingBlock {
-            sub,
+            sub: Box::new(alloc, sub)?,
             chunk_id,
             offset,
             size: request.size,

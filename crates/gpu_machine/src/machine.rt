@@ -23,8 +23,7 @@ ghost use Rattle.gpu_machine.specs.State.{IsServed, told_fault};
 ghost use Rattle.gpu_machine.specs.Begin.{allocated_in, question_for, Tries, Follows, Serves, Begins, Grants, Declines};
 
 use crate::answer::{Allocated, MemoryBack, Progress, Question};
-use crate::awaited::Awaited;
-use crate::description::Description;
+use crate::awaited::{Awaited, await_block};
 use crate::refusal::{answer_awaited, no_answer_awaited, refusal_of_mapping};
 use crate::told::fault_of;
 use gpu_core::{AllLeaks, MemoryTypes, Piece, Prepared};
@@ -428,16 +427,10 @@ impl Machine {
             }
             Ok(Prepared::NeedBlock(need)) => need,
         };
-        let Ok(description) = Description::of(self.alloc, desc) else {
+        let question = question_for(&self.setup, index, desc, need.size);
+        let Ok(()) = await_block(&mut self.awaited, self.alloc, desc, index, is_second, need) else {
             return Err(AllocationError::HostOutOfMemory);
         };
-        let question = question_for(&self.setup, index, desc, need.size);
-        self.awaited = Some(Awaited {
-            description,
-            memory_type: index,
-            is_second,
-            need,
-        });
         Ok(Progress::Question(question))
     }
 }

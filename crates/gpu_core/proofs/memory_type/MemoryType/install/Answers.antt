@@ -15,8 +15,8 @@ kept_with : (g : _) (c : After-put-slot g) (shared : ℕ) → cond (not c.args.n
 kept_with g c shared counts =
     let i = c.self.inside in
     let ready = c.requires.ready in
-    let block : Block = block_of c.room.inside.sub in
-    let same : block ≡ c.args.need.room.block = ap (λ r. r.block) c.room.view_is in
+    let block : Block = block_of c.into_inner.result in
+    let same : block ≡ c.args.need.room.block = ap block_of c.into_inner.ensures ∙ ap (λ r. r.block) c.room.view_is in
     let put = c.put-slot.ensures in
     let s : Slot g.row.H.Denot = record { handle = c.args.handle; block = block } in
     installed_kept i.granularity i.slots.slots i.capacity i.shared c.args.need.dedicated s c.put-slot.new.self.slots c.args.need.size shared c.self.invariant

@@ -1,8 +1,9 @@
-use Rattle.std.proofs.Common.{◌∙◌, ◌<◌, sym, subst, length, arith, rules}
+use Rattle.std.proofs.Common.{◌∙◌, ◌<◌, refl, sym, subst, length, arith, rules}
 use Rattle.gpu_values.specs.Sizes.{Sizes}
 use Rattle.gpu_values.specs.Refusal.{refusal_of}
 use Rattle.gpu_core.specs.declared.memory_type.Prepared.TheVariants as prepared
 use Rattle.gpu_core.specs.Requests.{PreparesAt, IsPrepareRefusal}
+use Rattle.gpu_machine.specs.Description.{description_of}
 use Rattle.gpu_machine.specs.State.{State}
 use Rattle.gpu_machine.proofs.Preparing.{IsReady, refused_at, taken_at, starved_at, asks_at, answers_at}
 use Rattle.gpu_machine.proofs.machine.Machine.attempt.Goals as goal
@@ -42,8 +43,9 @@ returns-in_default c =
     let i = c.self.inside in
     let need = c.in-Ok-NeedBlock.need in
     let h : PreparesAt a.index i.types c.sizes.result c.request_of.result (prepared.NeedBlock need) c.prepare.new.self = rw c.in-Ok-NeedBlock.field-0-is at c.in-Ok-NeedBlock.ensures.prepared in
-    starved_at a.self.now i.setup i.types i.awaited a.index a.desc.now c.request_of.result (ready ((goal.at.returns-in_default c).After-prepare)) need c.prepare.new.self
-    (subst (λ (z : Sizes). PreparesAt a.index i.types z c.request_of.result (prepared.NeedBlock need) c.prepare.new.self) c.sizes.ensures h) c.in-Ok-NeedBlock.ensures.budgets
+    rw c.in_default.ensures.refused
+    (starved_at a.self.now i.setup i.types i.awaited a.index a.desc.now c.request_of.result (ready ((goal.at.returns-in_default c).After-prepare)) need c.prepare.new.self
+    (subst (λ (z : Sizes). PreparesAt a.index i.types z c.request_of.result (prepared.NeedBlock need) c.prepare.new.self) c.sizes.ensures h) c.in-Ok-NeedBlock.ensures.budgets)
 
 pub invariant_of-self-2 : goal.invariant_of-self-2
 invariant_of-self-2 c =
@@ -54,9 +56,9 @@ invariant_of-self-2 c =
     let e = c.in-Ok-NeedBlock.ensures in (
       e.kinds ∙ c.self.invariant.0,
       e.kept,
-      answers_at a.self.now i.setup i.types i.awaited a.index a.desc.now c.request_of.result (ready ((goal.at.invariant_of-self-2 c).After-prepare)) need c.prepare.new.self
+      rw c.in-Ok.ensures.awaits (answers_at a.self.now i.setup i.types i.awaited a.index a.desc.now c.request_of.result (ready ((goal.at.invariant_of-self-2 c).After-prepare)) need c.prepare.new.self
           (subst (λ (z : Sizes). PreparesAt a.index i.types z c.request_of.result (prepared.NeedBlock need) c.prepare.new.self) c.sizes.ensures h) e.budgets
-          a.is_second c.in-Ok.description c.in-Ok.ensures c.requires.served e.kinds,
+          a.is_second (description_of a.desc.now) refl c.requires.served e.kinds),
     )
 
 pub returns : goal.returns
@@ -65,9 +67,10 @@ returns c =
     let i = c.self.inside in
     let need = c.in-Ok-NeedBlock.need in
     let h : PreparesAt a.index i.types c.sizes.result c.request_of.result (prepared.NeedBlock need) c.prepare.new.self = rw c.in-Ok-NeedBlock.field-0-is at c.in-Ok-NeedBlock.ensures.prepared in
-    asks_at a.self.now i.setup i.types i.awaited a.index a.desc.now c.request_of.result (ready ((goal.at.returns c).After-prepare)) need c.prepare.new.self
+    rw c.in-Ok.ensures.awaits
+    (asks_at a.self.now i.setup i.types i.awaited a.index a.desc.now c.request_of.result (ready ((goal.at.returns c).After-prepare)) need c.prepare.new.self
     (subst (λ (z : Sizes). PreparesAt a.index i.types z c.request_of.result (prepared.NeedBlock need) c.prepare.new.self) c.sizes.ensures h) c.in-Ok-NeedBlock.ensures.budgets
-    a.is_second c.in-Ok.description c.question_for-question.result c.in-Ok.ensures c.question_for-question.ensures
+    a.is_second (description_of a.desc.now) c.question_for-question.result refl c.question_for-question.ensures)
 
 pub returns-then-desc-heap_size : goal.returns-then-desc-heap_size
 returns-then-desc-heap_size c = search rules

@@ -1,4 +1,4 @@
-use Rattle.std.proofs.Common.{◌≡◌, ◌∙◌, ◌<◌, length, sym, subst, Ok, Err, Result}
+use Rattle.std.proofs.Common.{◌≡◌, ◌∙◌, ◌<◌, length, Ok, Err, Result}
 use Rattle.gpu_core.specs.declared.memory_type.Prepared.TheVariants as prepared
 use Rattle.gpu_core.specs.declared.piece.Piece.{Piece}
 use Rattle.gpu_core.specs.Requests.{PreparesAt}
@@ -6,13 +6,11 @@ use Rattle.gpu_core.specs.Types.{Types, kinds, MemoryTypesInvariant}
 use Rattle.gpu_values.specs.Refusal.{refusal_of}
 use Rattle.gpu_values.specs.declared.error.AllocationError.{AllocationError}
 use Rattle.gpu_pool.specs.Allocate.{request_at, Allocates, AsksOf}
-use Rattle.gpu_pool.specs.Live.{StayLive}
 use Rattle.gpu_pool.specs.Source.{result_of}
-use Rattle.gpu_pool.specs.State.{State}
 use Rattle.gpu_pool.proofs.Allocating.{prepare_refused, shared_allocates, room_left, declined, installed}
 use Rattle.gpu_pool.proofs.Outcomes.{Outcome, outcome, pool_of, is_there}
 use Rattle.gpu_pool.proofs.pool.Pool.allocate.Goals as goal
-use Rattle.gpu_pool.proofs.pool.Pool.allocate.Goals.{In-Err, In-Ok-Taken, In-Ok-NeedBlock, In-Err-ask, After-prepare, After-install, Joined-need, in-FreeList-1, in-Dedicated-1}
+use Rattle.gpu_pool.proofs.pool.Pool.allocate.Goals.{In-Err, In-Ok-Taken, In-Ok-NeedBlock, In-Err-ask, After-prepare, After-install}
 
 -- what the allocation leaves of the pool
 abbrev Leaves : (g : _) (c : After-prepare g) → Result (Piece g.row.S-Handle.Denot) AllocationError → g.row.S.Denot → Types g.row.S-Handle.Denot → Type 0
@@ -141,29 +139,11 @@ not_granted g c =
 pub invariant_of-self-in-Err-ask : goal.invariant_of-self-in-Err-ask
 invariant_of-self-in-Err-ask g c = (not_granted g (goal.at.invariant_of-self-in-Err-ask g c).In-Err-ask).invariant
 
-pub invariant_of-self-in-Err-ask-2 : goal.invariant_of-self-in-Err-ask-2
-invariant_of-self-in-Err-ask-2 g c = (not_granted g (goal.at.invariant_of-self-in-Err-ask-2 g c).In-Err-ask).invariant
-
--- the block that was made ready is dropped, be it shared or dedicated
-dropped : (g : _) (c : Joined-need g) → c.match-need.self ≡ pool_of c.self.inside.sizes c.ask.new.self c.prepare.new.self
-dropped g c =
-    elim c.match-need.branch [
-      | in-FreeList-1 w ↦ w.self-is
-      | in-Dedicated-1 w ↦ w.self-is
-    ]
-
 pub returns-in-Err-ask-clause-allocates : goal.returns-in-Err-ask-clause-allocates
-returns-in-Err-ask-clause-allocates g c =
-    let a = c.args in
-    subst (Allocates (g.S.BlockSource.kinds a.self.now.source) g.S.BlockSource.asks (request_at a.index a.request.now a.extra) a.self.now (Err (refusal_of c.in-Err-ask.error))) (sym (dropped g c))
-    (not_granted g (goal.at.returns-in-Err-ask-clause-allocates g c).In-Err-ask).allocates
+returns-in-Err-ask-clause-allocates g c = (not_granted g (goal.at.returns-in-Err-ask-clause-allocates g c).In-Err-ask).allocates
 
 pub returns-in-Err-ask-clause-constant : goal.returns-in-Err-ask-clause-constant
-returns-in-Err-ask-clause-constant g c =
-    subst (λ (s : State g.row.S.Denot g.row.S-Handle.Denot). g.S.BlockSource.kinds s.source ≡ g.S.BlockSource.kinds c.args.self.now.source) (sym (dropped g c))
-    (not_granted g (goal.at.returns-in-Err-ask-clause-constant g c).In-Err-ask).constant
+returns-in-Err-ask-clause-constant g c = (not_granted g (goal.at.returns-in-Err-ask-clause-constant g c).In-Err-ask).constant
 
 pub returns-in-Err-ask-clause-keeps : goal.returns-in-Err-ask-clause-keeps
-returns-in-Err-ask-clause-keeps g c =
-    subst (λ (s : State g.row.S.Denot g.row.S-Handle.Denot). StayLive g.S.Handle.PartialEq.eq c.args.self.now.slots s.slots) (sym (dropped g c))
-    (not_granted g (goal.at.returns-in-Err-ask-clause-keeps g c).In-Err-ask).owns.keeps
+returns-in-Err-ask-clause-keeps g c = (not_granted g (goal.at.returns-in-Err-ask-clause-keeps g c).In-Err-ask).owns.keeps
