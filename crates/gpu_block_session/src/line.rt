@@ -18,6 +18,7 @@ pub enum Line {
     Blank,
     /// A command.
     Says(Command),
+    /// No command: a byte that isn't ASCII, a word that is none, or one too many or too few.
     Bad,
 }
 
