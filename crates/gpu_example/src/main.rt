@@ -1,4 +1,4 @@
-// A tour of the library as a program would use it: one part for each graphics API, over a simulated device.
+// A tour of the library as a program would use it: a part for each graphics API, over a simulated device.
 #![tactic(auto)]
 
 pub mod caller;
