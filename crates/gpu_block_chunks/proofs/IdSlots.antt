@@ -1,29 +1,11 @@
--- The slot of a chunk id, and the ids and links of entries.
-use Rattle.std.proofs.Common.{◌≡◌, ◌≢◌, ℕ, ◌+◌, ◌<◌, List, [], ◌∷◌, ◌++◌, length, get_or, set, replicate, Bool, true, false, cond, ◌==◌, Option, Some, None, refl, sym, ap, ◌∙◌, subst, ◌⊎◌, inl, inr, add-one, zero, suc, arith}
+-- The slot of a chunk id, and the links from slot to slot.
+use Rattle.std.proofs.Common.{◌≡◌, ◌≢◌, ℕ, ◌+◌, ◌<◌, List, [], ◌∷◌, ◌++◌, length, set, replicate, Bool, true, false, cond, ◌==◌, Option, Some, None, refl, sym, ap, ◌∙◌, subst, ◌⊎◌, inl, inr, add-one, zero, suc, arith}
 use Rattle.std.specs.Option.{option_map}
-use Rattle.std.proofs.lemmas.Bool.{cases_lt, eqb-true, eq-eqb, false≢true}
+use Rattle.std.proofs.lemmas.Bool.{eqb-true, eq-eqb, false≢true}
 use Rattle.std.proofs.lemmas.Option.{same_Some}
-use Rattle.std.proofs.lemmas.List.{get_or-map, get_or_past, length-map, get_or-set_other}
-use Rattle.gpu_block_chunks.specs.declared.chain.chunk_ids.Entry.{Entry}
+use Rattle.std.proofs.lemmas.List.{get_or-set_other}
 use Rattle.gpu_block_chunks.specs.Chain.{is_at}
-use Rattle.gpu_block_chunks.specs.EntryCell.{with_next}
-use Rattle.gpu_block_chunks.specs.ChunkIds.{id_at, slot_of, ids_in, next_of, link_at}
-
--- ---- entries
-pub id_is : (es : List (Option Entry)) (slot : ℕ) → id_at (ids_in es) slot ≡ option_map (λ e. e.chunk_id) (get_or es slot None)
-id_is es slot =
-    elim (cases_lt slot (length es)) as (λ _. id_at (ids_in es) slot ≡ option_map (λ e. e.chunk_id) (get_or es slot None)) [
-      | inl lt ↦ get_or-map (option_map (λ (e : Entry). e.chunk_id)) es slot None None lt
-      | inr ge ↦
-          get_or_past (ids_in es) slot None (let same = length-map es (option_map (λ (e : Entry). e.chunk_id)) in omega arith)
-          ∙ ap (option_map (λ (e : Entry). e.chunk_id)) (sym (get_or_past es slot None ge))
-    ]
-
-pub id_of_entry : (es : List (Option Entry)) (slot : ℕ) (e : Entry) → get_or es slot None ≡ Some e → id_at (ids_in es) slot ≡ Some e.chunk_id
-id_of_entry es slot e at = id_is es slot ∙ ap (option_map (λ (e : Entry). e.chunk_id)) at
-
-pub no_id : (es : List (Option Entry)) (slot : ℕ) → get_or es slot None ≡ None → id_at (ids_in es) slot ≡ None
-no_id es slot at = id_is es slot ∙ ap (option_map (λ (e : Entry). e.chunk_id)) at
+use Rattle.gpu_block_chunks.specs.ChunkIds.{id_at, slot_of, link_at}
 
 -- ---- the slot of an id
 slot_by : (b : Bool) (o : Option ℕ) (s : ℕ) → cond b (Some 0) (option_map (λ (t : ℕ). t + 1) o) ≡ Some s → ((b ≡ true) × (s ≡ 0)) ⊎ ((b ≡ false) × ((t : ℕ) × (o ≡ Some t) × (s ≡ t + 1)))
@@ -112,16 +94,6 @@ slot_more [] more q = none_replicated more q
 slot_more (o ∷ ids) more q = ap (λ (u : Option ℕ). cond (is_at o q) (Some 0) (option_map (λ (t : ℕ). t + 1) u)) (slot_more ids more q)
 
 -- ---- links
-pub link_set : (heads : List (Option ℕ)) (es : List (Option Entry)) (s : ℕ) (x : Option Entry) (chain : ℕ) (p : Option ℕ) → p ≢ Some s → link_at heads (set es s x) chain p ≡ link_at heads es chain p
-link_set heads es s x chain None ne = refl
-link_set heads es s x chain (Some q) ne = ap next_of (get_or-set_other es s q x None (λ (is : q ≡ s). ne (ap (λ (u : ℕ). Some u) is)))
-
-same_id : (x : Option Entry) (link : Option ℕ) → option_map (λ (e : Entry). e.chunk_id) (option_map (with_next link) x) ≡ option_map (λ (e : Entry). e.chunk_id) x
-same_id None link = refl
-same_id (Some e) link = refl
-
--- an entry with another link has the same id
-pub ids_kept : (es : List (Option Entry)) (s : ℕ) (link : Option ℕ) (other : Option Entry) → ids_in (set es s (option_map (with_next link) (get_or es s other))) ≡ ids_in es
-ids_kept [] s link other = refl
-ids_kept (x ∷ es) zero link other = ap (λ (id : Option ℕ). id ∷ ids_in es) (same_id x link)
-ids_kept (x ∷ es) (suc s) link other = ap (λ (ids : List (Option ℕ)). option_map (λ (e : Entry). e.chunk_id) x ∷ ids) (ids_kept es s link other)
+pub link_set : (heads fs : List (Option ℕ)) (s : ℕ) (x : Option ℕ) (chain : ℕ) (p : Option ℕ) → p ≢ Some s → link_at heads (set fs s x) chain p ≡ link_at heads fs chain p
+link_set heads fs s x chain None ne = refl
+link_set heads fs s x chain (Some q) ne = get_or-set_other fs s q x None (λ (is : q ≡ s). ne (ap (λ (u : ℕ). Some u) is))

@@ -14,3 +14,5 @@ pub mod IdChains
 pub mod IdSlots
 pub mod IdRows
 pub mod IdGrowth
+pub mod IdsOf
+pub mod Found

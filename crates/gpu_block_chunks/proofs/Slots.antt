@@ -25,8 +25,6 @@ some_and P None h = absurd h
 some_and P (Some n) h = refl
 
 -- ---- where a link leads to
-id_of : LinkedChunk → ℕ
-id_of n = (n.chunk).chunk_id
 
 -- the link to a slot that is taken has its number
 pub number_is : (ids : List (Option ℕ)) (link : Option Link) → LeadsIn ids link → number_at ids (link_slot link) ≡ link_chunk_id link

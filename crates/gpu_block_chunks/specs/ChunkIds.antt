@@ -1,8 +1,8 @@
 -- Chunk ids in slots, and the chains in which they are found: each link leads to the greatest id of its chain that is left.
-use Rattle.std.specs.Prelude.{◌≡◌, ◌≢◌, ℕ, ◌+◌, ◌%◌, ◌^◌, ◌<◌, ◌≤◌, List, [], ◌∷◌, map, length, Option, Some, None, MatchOption, cond, slice_index_or}
+use Rattle.std.specs.Prelude.{◌≡◌, ◌≢◌, ℕ, ◌+◌, ◌-◌, ◌%◌, ◌^◌, ◌<◌, ◌≤◌, List, [], ◌∷◌, ◌++◌, map, length, replicate, Option, Some, None, MatchOption, cond, slice_index_or}
 use Rattle.std.specs.Int.{IsPowerOfTwo}
 use Rattle.std.specs.Option.{option_map}
-use Rattle.gpu_block_chunks.specs.declared.chain.chunk_ids.Entry.{Entry}
+use Rattle.gpu_block_chunks.specs.declared.chain.link.LinkedChunk.{LinkedChunk}
 use Rattle.gpu_block_chunks.specs.Chain.{is_at}
 
 -- the id in a slot
@@ -14,17 +14,22 @@ abbrev pub slot_of : List (Option ℕ) → ℕ → Option ℕ
 slot_of [] k = None
 slot_of (id ∷ ids) k = cond (is_at id k) (Some 0) (option_map (λ s. s + 1) (slot_of ids k))
 
-abbrev pub ids_in : List (Option Entry) → List (Option ℕ)
-ids_in entries = map (option_map (λ e. e.chunk_id)) entries
+-- the id of a chunk, if there is one
+abbrev pub id_of : Option LinkedChunk → Option ℕ
+id_of chunk = option_map (λ n. (n.chunk).chunk_id) chunk
 
-abbrev pub next_of : Option Entry → Option ℕ
-next_of None = None
-next_of (Some e) = e.next
+-- the ids of the chunks in slots, of which there are so many at least
+abbrev pub ids_of : List (Option LinkedChunk) → ℕ → List (Option ℕ)
+ids_of chunks slots = map id_of chunks ++ replicate (slots - length chunks) None
 
--- where a head leads, or an entry does
-abbrev pub link_at : List (Option ℕ) → List (Option Entry) → ℕ → Option ℕ → Option ℕ
-link_at heads entries chain None = slice_index_or heads chain None
-link_at heads entries chain (Some slot) = next_of (slice_index_or entries slot None)
+-- each id is that of the chunk in its slot
+abbrev pub AreIn : List (Option ℕ) → List (Option LinkedChunk) → Type 0
+AreIn ids chunks = (slot k : ℕ) → id_at ids slot ≡ Some k → id_of (slice_index_or chunks slot None) ≡ Some k
+
+-- the slot to which a head leads, or which follows another
+abbrev pub link_at : List (Option ℕ) → List (Option ℕ) → ℕ → Option ℕ → Option ℕ
+link_at heads followers chain None = slice_index_or heads chain None
+link_at heads followers chain (Some slot) = slice_index_or followers slot None
 
 -- the slot has the greatest id of which that holds
 pub record HasGreatest (ids : List (Option ℕ)) (P : ℕ → Type 0) (slot : ℕ) : Type 0 where
@@ -53,13 +58,19 @@ AreLinked ids chains link =
     (chain : ℕ) (before : Option ℕ) → chain < chains → IsOf ids chains chain before
     → LeadsTo ids (λ k. (k % chains ≡ chain) × IsBelow ids before k) (link chain before)
 
--- the ids of the entries are distinct and linked in chains, of which there are no fewer than entries
-pub record AreChains (heads : List (Option ℕ)) (entries : List (Option Entry)) : Type 0 where
+-- the ids in slots are distinct and linked in chains, of which there are no fewer than slots
+pub record AreChains (heads followers ids : List (Option ℕ)) : Type 0 where
   pub power : IsPowerOfTwo (length heads)
-  pub linked : AreLinked (ids_in entries) (length heads) (link_at heads entries)
-  pub distinct : (s t k : ℕ) → id_at (ids_in entries) s ≡ Some k → id_at (ids_in entries) t ≡ Some k → s ≡ t
-  pub enough : length entries ≤ length heads
-  pub few : length entries < 2 ^ 32
+  pub linked : AreLinked ids (length heads) (link_at heads followers)
+  pub distinct : (s t k : ℕ) → id_at ids s ≡ Some k → id_at ids t ≡ Some k → s ≡ t
+  pub long : length ids ≡ length followers
+  pub enough : length followers ≤ length heads
+  pub few : length followers < 2 ^ 32
+
+-- the chunks in slots are found: their ids are in the chains, and each slot can have a follower
+pub record AreFound (heads followers : List (Option ℕ)) (chunks : List (Option LinkedChunk)) : Type 0 where
+  pub chained : AreChains heads followers (ids_of chunks (length followers))
+  pub enough : length chunks ≤ length followers
 
 -- the slot has a greater id
 abbrev pub IsAbove : List (Option ℕ) → ℕ → ℕ → Type 0
@@ -70,13 +81,20 @@ abbrev pub NoneAbove : List (Option ℕ) → Option ℕ → ℕ → Type 0
 NoneAbove ids link k = (slot id : ℕ) → link ≡ Some slot → id_at ids slot ≡ Some id → id ≤ k
 
 -- the place of an id in its chain is behind that slot, or at the head
-pub record IsPlace (heads : List (Option ℕ)) (entries : List (Option Entry)) (chain k : ℕ) (before : Option ℕ) : Type 0 where
-  pub inside : IsOf (ids_in entries) (length heads) chain before
-  pub below : IsBelow (ids_in entries) before k
-  pub last : NoneAbove (ids_in entries) (link_at heads entries chain before) k
+pub record IsPlace (heads followers ids : List (Option ℕ)) (chain k : ℕ) (before : Option ℕ) : Type 0 where
+  pub inside : IsOf ids (length heads) chain before
+  pub below : IsBelow ids before k
+  pub last : NoneAbove ids (link_at heads followers chain before) k
 
 -- one link changes, and no other
 pub record ChangesLink (old new : ℕ → Option ℕ → Option ℕ) (chain : ℕ) (before link : Option ℕ) : Type 0 where
   pub changed : new chain before ≡ link
   pub others : (other : ℕ) (slot : Option ℕ) → slot ≢ before → new other slot ≡ old other slot
+  pub heads : (other : ℕ) → other ≢ chain → new other None ≡ old other None
+
+-- a slot comes between one and its follower, and no other link changes
+pub record PutsBehind (old new : ℕ → Option ℕ → Option ℕ) (chain : ℕ) (before : Option ℕ) (slot : ℕ) : Type 0 where
+  pub first : new chain before ≡ Some slot
+  pub rest : (other : ℕ) → new other (Some slot) ≡ old chain before
+  pub others : (other : ℕ) (p : Option ℕ) → p ≢ before → p ≢ Some slot → new other p ≡ old other p
   pub heads : (other : ℕ) → other ≢ chain → new other None ≡ old other None

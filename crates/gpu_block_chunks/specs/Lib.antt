@@ -4,7 +4,6 @@ pub mod Chain
 pub mod Slots
 pub mod SlotLink
 pub mod FreeSlots
-pub mod EntryCell
 pub mod ChunkIds
 pub mod Nodes
 pub use Rattle.gpu_cost.specs.Cost

@@ -4,7 +4,7 @@ use Rattle.std.specs.Option.{option_map}
 use Rattle.gpu_block_chunks.specs.declared.chain.link.Link.{Link}
 use Rattle.gpu_block_chunks.specs.declared.chain.link.LinkedChunk.{LinkedChunk}
 use Rattle.gpu_block_chunks.specs.Chain.{Node}
-use Rattle.gpu_block_chunks.specs.ChunkIds.{id_at, slot_of}
+use Rattle.gpu_block_chunks.specs.ChunkIds.{id_at, id_of, ids_of, slot_of, AreFound}
 
 -- the number and the chunk in each slot, and for how many more chunks there is room
 pub record Slotted : Type 0 where
@@ -77,9 +77,14 @@ IsAlone k f = (q : ℕ) (n : Node) → q ≢ k → f q ≡ Some n → (n.prev �
 
 -- each slot has the number of its chunk, no two have one, and a chunk is linked to slots with a number
 pub record AreSound (ids : List (Option ℕ)) (chunks : List (Option LinkedChunk)) : Type 0 where
-  pub numbered : (s : ℕ) → id_at ids s ≡ option_map (λ n. (n.chunk).chunk_id) (slice_index_or chunks s None)
+  pub numbered : (s : ℕ) → id_at ids s ≡ id_of (slice_index_or chunks s None)
   pub enough : length chunks ≤ length ids
   pub few : length ids < 2 ^ 32
   pub distinct : (s t k : ℕ) → id_at ids s ≡ Some k → id_at ids t ≡ Some k → s ≡ t
   pub prev : (s : ℕ) (n : LinkedChunk) → slice_index_or chunks s None ≡ Some n → IsTaken ids n.prev
   pub next : (s : ℕ) (n : LinkedChunk) → slice_index_or chunks s None ≡ Some n → IsTaken ids n.next
+
+-- the chunks in slots are sound with their own numbers, by which they are found
+pub record AreNodes (heads followers : List (Option ℕ)) (chunks : List (Option LinkedChunk)) : Type 0 where
+  pub found : AreFound heads followers chunks
+  pub sound : AreSound (ids_of chunks (length followers)) chunks

@@ -9,7 +9,6 @@ ghost use Rattle.gpu_block_chunks.specs.ChunkList.{Covers, AreDistinct, chunk_of
 ghost use Rattle.gpu_block_chunks.specs.Chain.{HasChunkId, HasNoChunkId, HasNoPiece, ReleasesPiece, IsSplit, IsFilled, from_chunk_id, beside, beside_of, around_of, first_after, IsChunkAt, IsFresh, IsLonger};
 
 mod chunk_ids;
-mod entry_cell;
 mod link;
 mod node;
 mod nodes;

@@ -20,7 +20,6 @@ use Rattle.gpu_block_gaps.specs.contracts.thread.Thread as Thread
 use Rattle.gpu_block_chunks.specs.contracts.name.Name as Name
 use Rattle.gpu_block_chunks.specs.contracts.chunk.Chunk as Chunk
 use Rattle.gpu_block_chunks.specs.contracts.chain.chunk_ids.ChunkIds as ChunkIds
-use Rattle.gpu_block_chunks.specs.contracts.chain.entry_cell.EntryCell as EntryCell
 use Rattle.gpu_cost.specs.contracts.cost.Cost as Cost
 use Rattle.gpu_block_chunks.specs.contracts.chain.slot_link.SlotLink as SlotLink
 use Rattle.gpu_block_chunks.specs.contracts.chain.slots.Cell as Cell
@@ -102,11 +101,8 @@ key_send = search sendable
 pub place_send : IsSend usize
 place_send = search sendable
 
-entry_send : IsSend EntryCell.the_row
-entry_send = let l = link_send in search sendable depth 20
-
-ids_send : IsSend ChunkIds.the_row
-ids_send = let l = link_send in let e = entry_send in search (sendable, Vec-send) depth 20
+ids_send : IsSend (ChunkIds.the_field).row
+ids_send = let l = link_send in search (sendable, Vec-send) depth 20
 
 nodes_send : IsSend Nodes.the_row
 nodes_send = let s = slots_send in let i = ids_send in search sendable depth 20

@@ -22,18 +22,19 @@ pub struct Nodes {
 
 impl Model for Nodes {
     ghost use Rattle.std.specs.Prelude.{◌-◌, min, length};
-    ghost use Rattle.gpu_block_chunks.specs.Nodes.{Slotted, AreSound};
+    ghost use Rattle.gpu_block_chunks.specs.ChunkIds.{ids_of};
+    ghost use Rattle.gpu_block_chunks.specs.Nodes.{Slotted, AreNodes};
     ghost use Rattle.gpu_block_chunks.specs.Slots.{taken};
 
     ghost Value = { Slotted };
 
     ghost view = { λ n. record {
-      ids = n.ids;
+      ids = ids_of n.chunks.slots (length n.ids.followers.items);
       chunks = n.chunks.slots;
-      room = min (length n.ids - taken n.chunks) n.chunks.room;
+      room = min (length n.ids.followers.items - taken n.chunks) n.chunks.room;
     } };
 
-    ghost invariant = { λ n. AreSound n.ids n.chunks.slots };
+    ghost invariant = { λ n. AreNodes n.ids.heads.items n.ids.followers.items n.chunks.slots };
 }
 
 impl Nodes {
@@ -42,9 +43,9 @@ impl Nodes {
         ensures none { IfOk result (λ n. (k : ℕ) → held_at n k ≡ None) }
         ensures room { IfOk result (λ n. capacity ≤ room_of n) }
     {
-        let mut ids = ChunkIds::with_slots(alloc, 0)?;
-        ids.reserve_to(capacity)?;
         let chunks = Slots::with_capacity(alloc, capacity)?;
+        let mut ids = ChunkIds::with_slots(alloc, 0)?;
+        ids.reserve_to(&chunks, capacity)?;
         Ok(Nodes { ids, chunks })
     }
 
@@ -55,7 +56,7 @@ impl Nodes {
         ensures links { IfSome result (λ n. IsTaken self.now.ids n.prev
             × IsTaken self.now.ids n.next) }
     {
-        let slot = self.ids.find(chunk_id)?;
+        let slot = self.ids.find(&self.chunks, chunk_id)?;
         self.chunks.get(slot as usize)
     }
 
@@ -65,7 +66,7 @@ impl Nodes {
         ensures { MatchOption result (held_at self.now chunk_id ≡ None)
             (λ link. (link.chunk_id ≡ chunk_id) × Reaches self.now (Some link)) }
     {
-        match self.ids.find(chunk_id) {
+        match self.ids.find(&self.chunks, chunk_id) {
             Some(slot) => Some(Link { chunk_id, slot }),
             None => None,
         }
@@ -77,7 +78,7 @@ impl Nodes {
         ensures chunk_id { result.chunk_id ≡ chunk_id }
         ensures leads { Leads self.now (Some result) }
     {
-        match self.ids.find(chunk_id) {
+        match self.ids.find(&self.chunks, chunk_id) {
             Some(slot) => Link { chunk_id, slot },
             None => unreachable!(),
         }
@@ -128,7 +129,7 @@ impl Nodes {
         ensures kept { room_of self.old ≤ room_of self.new }
     {
         self.chunks.reserve(more)?;
-        self.ids.reserve_to(self.chunks.capacity())
+        self.ids.reserve_to(&self.chunks, self.chunks.capacity())
     }
 
     /// Puts a chunk under its number, which no other has. There is room for it, so no memory is taken.
@@ -145,8 +146,9 @@ impl Nodes {
         ensures links { KeepsReached self.old self.new }
         ensures room { room_of self.old ≤ room_of self.new + 1 }
     {
+        let before = self.ids.place(&self.chunks, chunk_id);
         let slot = self.chunks.insert_reserved(chunk) as u32;
-        self.ids.insert(chunk_id, slot);
+        self.ids.link(chunk_id, before, slot);
         Link { chunk_id, slot }
     }
 
@@ -159,7 +161,7 @@ impl Nodes {
         ensures kept { KeepsOthers self.old self.new link.chunk_id }
         ensures room { room_of self.old ≤ room_of self.new }
     {
-        self.ids.remove(link.chunk_id, link.slot);
+        self.ids.unlink(&self.chunks, link.chunk_id, link.slot);
         self.chunks.remove(link.slot as usize);
     }
 }

@@ -1,25 +1,38 @@
-use Rattle.std.proofs.Common.{◌≡◌, ℕ, Some, None, sym, ap, ◌∙◌}
+use Rattle.std.proofs.Common.{◌≡◌, ℕ, Some, None, length, sym, ap, ◌∙◌}
 use Rattle.std.proofs.lemmas.Option.{same_Some}
-use Rattle.gpu_block_chunks.specs.ChunkIds.{ids_in, id_at}
-use Rattle.gpu_block_chunks.proofs.IdSlots.{id_of_entry, slot_found}
+use Rattle.gpu_block_chunks.specs.ChunkIds.{ids_of, id_at}
+use Rattle.gpu_block_chunks.proofs.IdSlots.{slot_found}
 use Rattle.gpu_block_chunks.proofs.IdRows.{none_home}
+use Rattle.gpu_block_chunks.proofs.IdsOf.{ids_at, ids_in, chunk_led_to}
 use Rattle.gpu_block_chunks.proofs.chain.chunk_ids.find.Goals as goal
 
 pub returns-in_err-slot : goal.returns-in_err-slot
 returns-in_err-slot c =
+    let ids = ids_of c.args.chunks.now.slots (length c.args.followers.now) in
     c.from_residual.ensures
-    ∙ sym (none_home c.args.heads.now c.args.entries.now c.args.chunk_id c.last_above-before.result c.requires c.chain_of-chain.result c.chain_of-chain.ensures.value c.chain_of-chain.ensures.within
-    c.last_above-before.ensures None c.in_err-slot.ensures (λ s (no : None ≡ Some s). cc))
+    ∙ sym (none_home c.args.heads.now c.args.followers.now ids c.args.chunk_id c.last_above-before.result c.requires.chained c.chain_of-chain.result c.chain_of-chain.ensures.value
+    c.chain_of-chain.ensures.within c.last_above-before.ensures None (c.in_err-slot.ensures ∙ c.follower.ensures) (λ s (no : None ≡ Some s). cc))
 
-pub returns-then-entry_at-chunk_id : goal.returns-then-entry_at-chunk_id
-returns-then-entry_at-chunk_id c =
-    let at = id_of_entry c.args.entries.now c.in_ok-slot.slot c.entry_at.result c.entry_at.ensures in
-    sym (none_home c.args.heads.now c.args.entries.now c.args.chunk_id c.last_above-before.result c.requires c.chain_of-chain.result c.chain_of-chain.ensures.value c.chain_of-chain.ensures.within
-    c.last_above-before.ensures (Some c.in_ok-slot.slot) c.in_ok-slot.ensures
-    (λ s leads (has : id_at (ids_in c.args.entries.now) s ≡ Some c.args.chunk_id).
-    c.if-entry_at-chunk_id.true (same_Some _ _ (sym at ∙ ap (id_at (ids_in c.args.entries.now)) (same_Some c.in_ok-slot.slot s leads) ∙ has))))
+pub id_in-requires : goal.id_in-requires
+id_in-requires c =
+    let chunks = c.args.chunks.now.slots in
+    let fs = c.args.followers.now in
+    chunk_led_to c.args.heads.now fs (ids_of chunks (length fs)) chunks c.chain_of-chain.result c.last_above-before.result c.in_ok-slot.slot c.requires.chained (ids_in chunks (length fs))
+    c.chain_of-chain.ensures.within c.last_above-before.ensures.inside (c.in_ok-slot.ensures ∙ c.follower.ensures)
+
+pub returns-then-id_in-chunk_id : goal.returns-then-id_in-chunk_id
+returns-then-id_in-chunk_id c =
+    let chunks = c.args.chunks.now.slots in
+    let fs = c.args.followers.now in
+    let ids = ids_of chunks (length fs) in
+    let at = ids_at chunks (length fs) c.in_ok-slot.slot ∙ c.id_in.ensures in
+    sym (none_home c.args.heads.now fs ids c.args.chunk_id c.last_above-before.result c.requires.chained c.chain_of-chain.result c.chain_of-chain.ensures.value c.chain_of-chain.ensures.within
+    c.last_above-before.ensures (Some c.in_ok-slot.slot) (c.in_ok-slot.ensures ∙ c.follower.ensures)
+    (λ s leads (has : id_at ids s ≡ Some c.args.chunk_id). c.if-id_in-chunk_id.true (same_Some _ _ (sym at ∙ ap (id_at ids) (same_Some c.in_ok-slot.slot s leads) ∙ has))))
 
 pub returns : goal.returns
 returns c =
-    let at = id_of_entry c.args.entries.now c.in_ok-slot.slot c.entry_at.result c.entry_at.ensures ∙ ap (λ (k : ℕ). Some k) c.if-entry_at-chunk_id.false in
-    sym (slot_found (ids_in c.args.entries.now) c.args.chunk_id c.in_ok-slot.slot at (λ t there. c.requires.distinct t c.in_ok-slot.slot c.args.chunk_id there at))
+    let chunks = c.args.chunks.now.slots in
+    let fs = c.args.followers.now in
+    let at = ids_at chunks (length fs) c.in_ok-slot.slot ∙ c.id_in.ensures ∙ ap (λ (k : ℕ). Some k) c.if-id_in-chunk_id.false in
+    sym (slot_found (ids_of chunks (length fs)) c.args.chunk_id c.in_ok-slot.slot at (λ t there. c.requires.chained.distinct t c.in_ok-slot.slot c.args.chunk_id there at))

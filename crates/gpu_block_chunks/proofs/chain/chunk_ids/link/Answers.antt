@@ -1,27 +1,15 @@
-use Rattle.std.proofs.Common.{None, set, ap}
-use Rattle.std.proofs.lemmas.Option.{slice_get_within, get_or_from_slice_get}
-use Rattle.gpu_block_chunks.proofs.IdRows.{linkable, put_chains, put_ids}
+use Rattle.std.proofs.Common.{ℕ, Option, set, subst}
+use Rattle.gpu_block_chunks.specs.ChunkIds.{link_at, ChangesLink, PutsBehind}
+use Rattle.gpu_block_chunks.proofs.IdRows.{put_behind}
 use Rattle.gpu_block_chunks.proofs.chain.chunk_ids.link.Goals as goal
 
-pub new-requires : goal.new-requires
-new-requires c =
-    linkable c.args.heads.now c.args.entries.now c.chain_of-chain.result c.last_above-before.result c.requires.chained c.chain_of-chain.ensures.within
-    c.last_above-before.ensures.inside c.follower-next.result c.follower-next.ensures
-
-pub returns-clause-chained : goal.returns-clause-chained
-returns-clause-chained c =
-    let es = c.args.entries.now in
-    put_chains c.args.heads.now c.set_follower.new.heads es _ c.set_follower.new.entries c.requires.chained c.args.chunk_id c.args.slot c.last_above-before.result c.follower-next.result
-    c.chain_of-chain.result c.chain_of-chain.ensures.value c.chain_of-chain.ensures.within c.last_above-before.ensures c.set_follower.ensures.heads
-    (slice_get_within es c.args.slot None c.requires.vacant) (get_or_from_slice_get es c.args.slot None None c.requires.vacant) c.requires.new c.follower-next.ensures
-    (ap (set es c.args.slot) c.new.ensures)
-    c.set_follower.ensures.links c.set_follower.ensures.ids
-
-pub returns-clause-ids : goal.returns-clause-ids
-returns-clause-ids c =
-    let es = c.args.entries.now in
-    put_ids c.args.heads.now c.set_follower.new.heads es _ c.set_follower.new.entries c.requires.chained c.args.chunk_id c.args.slot c.last_above-before.result c.follower-next.result
-    c.chain_of-chain.result c.chain_of-chain.ensures.value c.chain_of-chain.ensures.within c.last_above-before.ensures c.set_follower.ensures.heads
-    (slice_get_within es c.args.slot None c.requires.vacant) (get_or_from_slice_get es c.args.slot None None c.requires.vacant) c.requires.new c.follower-next.ensures
-    (ap (set es c.args.slot) c.new.ensures)
-    c.set_follower.ensures.links c.set_follower.ensures.ids
+pub returns-clause-links : goal.returns-clause-links
+returns-clause-links c =
+    let heads = c.args.heads.now in
+    let fs = c.args.followers.now in
+    let set_follower = c.set_follower in
+    let links = subst (λ (l : Option ℕ). ChangesLink (link_at heads (set fs c.args.slot c.follower.result)) (link_at set_follower.new.heads set_follower.new.followers) c.chain_of-chain.result c.args.before l)
+    c.new.ensures set_follower.ensures.links in
+    subst (λ (chain : ℕ). PutsBehind (link_at heads fs) (link_at set_follower.new.heads set_follower.new.followers) chain c.args.before c.args.slot) c.chain_of-chain.ensures.value
+    (put_behind heads fs set_follower.new.heads set_follower.new.followers c.chain_of-chain.result c.args.before c.args.slot c.follower.result
+    c.requires.other c.requires.slot c.follower.ensures links)

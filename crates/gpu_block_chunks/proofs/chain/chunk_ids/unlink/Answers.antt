@@ -1,29 +1,18 @@
-use Rattle.std.proofs.Common.{Some, set, sym, ap}
-use Rattle.gpu_block_chunks.proofs.IdRows.{linkable, out_chains, out_ids, out_gone}
+use Rattle.std.proofs.Common.{◌∙◌, ◌<◌, None, length, arith}
+use Rattle.std.proofs.lemmas.List.{get_or_read}
+use Rattle.gpu_block_chunks.specs.ChunkIds.{ids_of}
+use Rattle.gpu_block_chunks.proofs.IdsOf.{ids_at}
+use Rattle.gpu_block_chunks.proofs.IdRows.{id_within, out_chains}
 use Rattle.gpu_block_chunks.proofs.chain.chunk_ids.unlink.Goals as goal
-
-pub set_follower-requires-clause-link : goal.set_follower-requires-clause-link
-set_follower-requires-clause-link c =
-    linkable c.args.heads.now c.args.entries.now c.chain_of-chain.result (Some c.args.slot) c.requires.chained c.chain_of-chain.ensures.within
-    (c.args.chunk_id, c.requires.there, sym c.chain_of-chain.ensures.value) c.follower-next.result c.follower-next.ensures
 
 pub returns-clause-chained : goal.returns-clause-chained
 returns-clause-chained c =
-    out_chains c.args.heads.now c.set_follower.new.heads c.args.entries.now c.set_follower.new.entries _ c.requires.chained c.args.chunk_id c.args.slot c.last_above-before.result
-    c.follower-next.result c.chain_of-chain.result c.chain_of-chain.ensures.value c.chain_of-chain.ensures.within c.last_above-before.ensures c.set_follower.ensures.heads
-    c.requires.there c.follower-next.ensures c.set_follower.ensures.links c.set_follower.ensures.ids
-    (ap (set c.set_follower.new.entries c.args.slot) c.vacant.ensures)
-
-pub returns-clause-ids : goal.returns-clause-ids
-returns-clause-ids c =
-    out_ids c.args.heads.now c.set_follower.new.heads c.args.entries.now c.set_follower.new.entries _ c.requires.chained c.args.chunk_id c.args.slot c.last_above-before.result
-    c.follower-next.result c.chain_of-chain.result c.chain_of-chain.ensures.value c.chain_of-chain.ensures.within c.last_above-before.ensures c.set_follower.ensures.heads
-    c.requires.there c.follower-next.ensures c.set_follower.ensures.links c.set_follower.ensures.ids
-    (ap (set c.set_follower.new.entries c.args.slot) c.vacant.ensures)
-
-pub returns-clause-gone : goal.returns-clause-gone
-returns-clause-gone c =
-    out_gone c.args.heads.now c.set_follower.new.heads c.args.entries.now c.set_follower.new.entries _ c.requires.chained c.args.chunk_id c.args.slot c.last_above-before.result
-    c.follower-next.result c.chain_of-chain.result c.chain_of-chain.ensures.value c.chain_of-chain.ensures.within c.last_above-before.ensures c.set_follower.ensures.heads
-    c.requires.there c.follower-next.ensures c.set_follower.ensures.links c.set_follower.ensures.ids
-    (ap (set c.set_follower.new.entries c.args.slot) c.vacant.ensures)
+    let fs = c.args.followers.now in
+    let ids = ids_of c.args.chunks.now.slots (length fs) in
+    let there = ids_at c.args.chunks.now.slots (length fs) c.args.slot ∙ c.requires.there in
+    let within = id_within ids c.args.slot c.args.chunk_id there in
+    let long = c.requires.found.chained.long in
+    let inside : c.args.slot < length fs = omega arith in
+    out_chains c.args.heads.now fs c.set_follower.new.heads c.set_follower.new.followers ids c.requires.found.chained c.args.chunk_id c.args.slot c.last_above-before.result
+    c.set_follower.ensures.heads c.set_follower.ensures.followers c.chain_of-chain.result c.chain_of-chain.ensures.value c.chain_of-chain.ensures.within c.last_above-before.ensures
+    there c.index-followers-slot.result (get_or_read fs c.args.slot c.index-followers-slot.result inside c.index-followers-slot.is None) c.set_follower.ensures.links

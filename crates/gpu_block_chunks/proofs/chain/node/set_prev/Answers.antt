@@ -3,23 +3,32 @@ use Rattle.gpu_block_chunks.specs.Chain.{with_prev}
 use Rattle.gpu_block_chunks.specs.Nodes.{link_chunk_id}
 use Rattle.gpu_block_chunks.specs.Slots.{Stored, linked_prev}
 use Rattle.gpu_block_chunks.proofs.Slots.{some_there, storable, changed_sound, changed_changes, given, numbers}
+use Rattle.gpu_block_chunks.proofs.Found.{nodes_kept, held_kept, numbers_kept}
 use Rattle.gpu_block_chunks.proofs.chain.node.set_prev.Goals as goal
 
 pub set_prev-requires : goal.set_prev-requires
 set_prev-requires c = record {
-  there = some_there _ _ c.nodes.view_is c.nodes.invariant c.args.at c.requires.there.0;
-  prev = rw c.slot_of.ensures (storable _ _ c.nodes.view_is c.nodes.invariant c.args.at c.requires.there.0 c.args.prev c.requires.prev);
+  there = some_there _ _ c.nodes.view_is c.nodes.invariant.sound c.args.at c.requires.there.0;
+  prev = rw c.slot_of.ensures (storable _ _ c.nodes.view_is c.nodes.invariant.sound c.args.at c.requires.there.0 c.args.prev c.requires.prev);
 }
 
 pub invariant_of-nodes : goal.invariant_of-nodes
 invariant_of-nodes c =
-    changed_sound _ _ c.nodes.view_is c.nodes.invariant c.args.at c.requires.there.0 c.set_prev.new.self.slots (linked_prev c.slot_of.result)
+    nodes_kept c.nodes.inside.ids.heads.items c.nodes.inside.ids.followers.items c.nodes.inside.chunks.slots c.set_prev.new.self.slots c.args.at.slot (linked_prev c.slot_of.result)
+    (ap (λ (s : Stored). s.slots) c.set_prev.ensures.changes) (λ n. refl) c.nodes.invariant
+    (changed_sound _ _ c.nodes.view_is c.nodes.invariant.sound c.args.at c.requires.there.0 c.set_prev.new.self.slots (linked_prev c.slot_of.result)
     (ap (λ (s : Stored). s.slots) c.set_prev.ensures.changes) (λ n. refl)
-    (λ n kept. rw c.slot_of.ensures (given _ _ c.nodes.view_is c.nodes.invariant c.args.at c.requires.there.0 c.args.prev c.requires.prev))
-    (λ n kept. kept)
+    (λ n kept. rw c.slot_of.ensures (given _ _ c.nodes.view_is c.nodes.invariant.sound c.args.at c.requires.there.0 c.args.prev c.requires.prev))
+    (λ n kept. kept))
 
 pub returns-clause-changes : goal.returns-clause-changes
 returns-clause-changes c =
-    changed_changes _ _ c.nodes.view_is c.nodes.invariant c.args.at c.requires.there.0 c.set_prev.new.self.slots (linked_prev c.slot_of.result)
+    held_kept c.nodes.inside.ids.heads.items c.nodes.inside.ids.followers.items c.nodes.inside.chunks.slots c.set_prev.new.self.slots c.args.at.slot (linked_prev c.slot_of.result)
+    (ap (λ (s : Stored). s.slots) c.set_prev.ensures.changes) (λ n. refl) _ _ _
+    (changed_changes _ _ c.nodes.view_is c.nodes.invariant.sound c.args.at c.requires.there.0 c.set_prev.new.self.slots (linked_prev c.slot_of.result)
     (ap (λ (s : Stored). s.slots) c.set_prev.ensures.changes) (with_prev (link_chunk_id c.args.prev))
-    (λ n. rw (c.slot_of.ensures, numbers _ _ c.nodes.view_is c.nodes.invariant c.args.at c.requires.there.0 c.args.prev c.requires.prev) refl)
+    (λ n. rw (c.slot_of.ensures, numbers _ _ c.nodes.view_is c.nodes.invariant.sound c.args.at c.requires.there.0 c.args.prev c.requires.prev) refl))
+
+pub returns-clause-ids : goal.returns-clause-ids
+returns-clause-ids c = rw (← c.nodes.view_is) (numbers_kept c.nodes.inside.ids.heads.items c.nodes.inside.ids.followers.items c.nodes.inside.chunks.slots c.set_prev.new.self.slots c.args.at.slot (linked_prev c.slot_of.result)
+    (ap (λ (s : Stored). s.slots) c.set_prev.ensures.changes) (λ n. refl))

@@ -2,17 +2,26 @@ use Rattle.std.proofs.Common.{refl, ap}
 use Rattle.gpu_block_chunks.specs.Chain.{used_node}
 use Rattle.gpu_block_chunks.specs.Slots.{Stored, used_linked}
 use Rattle.gpu_block_chunks.proofs.Slots.{some_there, changed_sound, changed_changes}
+use Rattle.gpu_block_chunks.proofs.Found.{nodes_kept, held_kept, numbers_kept}
 use Rattle.gpu_block_chunks.proofs.chain.node.set_use.Goals as goal
 
 pub set_use-requires : goal.set_use-requires
-set_use-requires c = some_there _ _ c.nodes.view_is c.nodes.invariant c.args.at c.requires.0
+set_use-requires c = some_there _ _ c.nodes.view_is c.nodes.invariant.sound c.args.at c.requires.0
 
 pub invariant_of-nodes : goal.invariant_of-nodes
 invariant_of-nodes c =
-    changed_sound _ _ c.nodes.view_is c.nodes.invariant c.args.at c.requires.0 c.set_use.new.self.slots (used_linked c.args.offset c.args.kind c.args.name)
-    (ap (λ (s : Stored). s.slots) c.set_use.ensures.changes) (λ n. refl) (λ n kept. kept) (λ n kept. kept)
+    nodes_kept c.nodes.inside.ids.heads.items c.nodes.inside.ids.followers.items c.nodes.inside.chunks.slots c.set_use.new.self.slots c.args.at.slot (used_linked c.args.offset c.args.kind c.args.name)
+    (ap (λ (s : Stored). s.slots) c.set_use.ensures.changes) (λ n. refl) c.nodes.invariant
+    (changed_sound _ _ c.nodes.view_is c.nodes.invariant.sound c.args.at c.requires.0 c.set_use.new.self.slots (used_linked c.args.offset c.args.kind c.args.name)
+    (ap (λ (s : Stored). s.slots) c.set_use.ensures.changes) (λ n. refl) (λ n kept. kept) (λ n kept. kept))
 
 pub returns-clause-changes : goal.returns-clause-changes
 returns-clause-changes c =
-    changed_changes _ _ c.nodes.view_is c.nodes.invariant c.args.at c.requires.0 c.set_use.new.self.slots (used_linked c.args.offset c.args.kind c.args.name)
-    (ap (λ (s : Stored). s.slots) c.set_use.ensures.changes) (used_node c.args.offset c.args.kind c.args.name) (λ n. refl)
+    held_kept c.nodes.inside.ids.heads.items c.nodes.inside.ids.followers.items c.nodes.inside.chunks.slots c.set_use.new.self.slots c.args.at.slot (used_linked c.args.offset c.args.kind c.args.name)
+    (ap (λ (s : Stored). s.slots) c.set_use.ensures.changes) (λ n. refl) _ _ _
+    (changed_changes _ _ c.nodes.view_is c.nodes.invariant.sound c.args.at c.requires.0 c.set_use.new.self.slots (used_linked c.args.offset c.args.kind c.args.name)
+    (ap (λ (s : Stored). s.slots) c.set_use.ensures.changes) (used_node c.args.offset c.args.kind c.args.name) (λ n. refl))
+
+pub returns-clause-ids : goal.returns-clause-ids
+returns-clause-ids c = rw (← c.nodes.view_is) (numbers_kept c.nodes.inside.ids.heads.items c.nodes.inside.ids.followers.items c.nodes.inside.chunks.slots c.set_use.new.self.slots c.args.at.slot (used_linked c.args.offset c.args.kind c.args.name)
+    (ap (λ (s : Stored). s.slots) c.set_use.ensures.changes) (λ n. refl))

@@ -1,23 +1,8 @@
 use Rattle.std.proofs.Common.{◌≡◌, ℕ, ◌+◌, ◌∷◌, [], ◌++◌, length, replicate, List, Option, None, sym, ap, subst, ◌∙◌, append_assoc, vec_len, arith}
-use Rattle.std.proofs.lemmas.List.{replicate_more}
-use Rattle.gpu_block_chunks.specs.declared.chain.chunk_ids.Entry.{Entry}
-use Rattle.gpu_block_chunks.specs.ChunkIds.{ids_in, AreChains}
-use Rattle.gpu_block_chunks.proofs.IdGrowth.{more_chains, ids_more}
+use Rattle.std.proofs.lemmas.List.{replicate_more, length-append, length-replicate}
+use Rattle.gpu_block_chunks.specs.ChunkIds.{AreFound}
+use Rattle.gpu_block_chunks.proofs.IdsOf.{more_found}
 use Rattle.gpu_block_chunks.proofs.chain.chunk_ids.ChunkIds.reserve_to.Goals as goal
-
-pub invariant_of-self-in-loop-self : goal.invariant_of-self-in-loop-self
-invariant_of-self-in-loop-self c =
-    let inv = c.loop-self.invariant in
-    let grown = inv.grown in
-    let new = c.loop-self.self-inside.entries in
-    let enough = inv.enough in
-    let few = inv.few in
-    let es = c.self.inside.entries.items in
-    let is : new.items ≡ es ++ replicate grown.0 None = grown.1 ∙ ap (λ (xs : List (Option Entry)). xs ++ replicate grown.0 None) c.in_ok-reserve_exact.ensures.items in
-    let long = ap length is in
-    let whole : length new.items ≡ vec_len new = omega arith in
-    subst (λ (hs : List (Option ℕ)). AreChains hs new.items) (sym inv.heads)
-    (subst (λ (xs : List (Option Entry)). AreChains c.self.inside.heads.items xs) (sym is) (more_chains c.self.inside.heads.items es grown.0 c.self.invariant (omega arith) (omega arith)))
 
 pub loop-self-preserved : goal.loop-self-preserved
 loop-self-preserved c =
@@ -36,9 +21,9 @@ loop-self-preserved c =
       grown = (
         grown.0 + 1,
         c.push_reserved.ensures.items
-            ∙ ap (λ (x : Option Entry). c.loop-self.self-inside.entries.items ++ x ∷ []) c.vacant.ensures
-            ∙ ap (λ (xs : List (Option Entry)). xs ++ None ∷ []) grown.1 ∙ append_assoc c.reserve_exact.new.self.items (replicate grown.0 None) (None ∷ [])
-            ∙ ap (λ (xs : List (Option Entry)). c.reserve_exact.new.self.items ++ xs) (replicate_more grown.0 None),
+            ∙ ap (λ (x : Option ℕ). c.loop-self.self.followers.items ++ x ∷ []) c.none.ensures
+            ∙ ap (λ (xs : List (Option ℕ)). xs ++ None ∷ []) grown.1 ∙ append_assoc c.reserve_exact.new.self.items (replicate grown.0 None) (None ∷ [])
+            ∙ ap (λ (xs : List (Option ℕ)). c.reserve_exact.new.self.items ++ xs) (replicate_more grown.0 None),
       );
       room = omega arith;
       heads = inv.heads;
@@ -46,10 +31,19 @@ loop-self-preserved c =
       few = omega arith;
     }
 
-pub returns-clause-same : goal.returns-clause-same
-returns-clause-same c =
-    let grown = c.loop-self.invariant.grown in (
-      grown.0,
-      ap ids_in (grown.1 ∙ ap (λ (xs : List (Option Entry)). xs ++ replicate grown.0 None) c.in_ok-reserve_exact.ensures.items)
-          ∙ ids_more c.self.inside.entries.items grown.0 ∙ ap (λ (ids : List (Option ℕ)). ids ++ replicate grown.0 None) c.self.view_is,
-    )
+pub returns-clause-found : goal.returns-clause-found
+returns-clause-found c =
+    let inv = c.loop-self.invariant in
+    let grown = inv.grown in
+    let new = c.loop-self.self.followers in
+    let enough = inv.enough in
+    let few = inv.few in
+    let heads = c.args.self.now.heads.items in
+    let fs = c.args.self.now.followers.items in
+    let is : new.items ≡ fs ++ replicate grown.0 None = grown.1 ∙ ap (λ (xs : List (Option ℕ)). xs ++ replicate grown.0 None) c.in_ok-reserve_exact.ensures.items in
+    let long = ap length is in
+    let parts = length-append fs (replicate grown.0 None) in
+    let added = length-replicate {A = Option ℕ} grown.0 None in
+    let whole : length new.items ≡ vec_len new = omega arith in
+    subst (λ (hs : List (Option ℕ)). AreFound hs new.items c.args.chunks.now.slots) (sym inv.heads)
+    (subst (λ (xs : List (Option ℕ)). AreFound heads xs c.args.chunks.now.slots) (sym is) (more_found heads fs c.args.chunks.now.slots grown.0 c.requires (omega arith) (omega arith)))

@@ -2,7 +2,7 @@ use Rattle.std.proofs.Common.{ℕ, ◌-◌, ◌^◌, ◌≡◌, ◌≤◌, ◌<�
 use Rattle.gpu_block_chunks.proofs.chain.chunk_ids.ChunkIds.reserve_to.Given as goal
 
 abbrev pub invariant-loop-self : goal.invariant-loop-self
-invariant-loop-self l = record { grown : ((more : ℕ) × (l.self-inside.entries.items ≡ l.initial.self-inside.entries.items ++ replicate more None)); room : (l.slots ≤ vec_capacity l.self-inside.entries); heads : (l.self-inside.heads.items ≡ l.initial.self-inside.heads.items); enough : (vec_len l.self-inside.entries ≤ length l.initial.self-inside.heads.items); few : (vec_len l.self-inside.entries < 2 ^ 32) }
+invariant-loop-self l = record { grown : ((more : ℕ) × (l.self.followers.items ≡ l.initial.self.followers.items ++ replicate more None)); room : (l.slots ≤ vec_capacity l.self.followers); heads : (l.self.heads.items ≡ l.initial.self.heads.items); enough : (vec_len l.self.followers ≤ length l.initial.self.heads.items); few : (vec_len l.self.followers < 2 ^ 32) }
 
 abbrev pub decreases-loop-self : goal.decreases-loop-self
-decreases-loop-self l = l.slots - vec_len l.self-inside.entries
+decreases-loop-self l = l.slots - vec_len l.self.followers

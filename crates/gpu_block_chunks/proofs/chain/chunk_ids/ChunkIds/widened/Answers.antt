@@ -1,47 +1,58 @@
-use Rattle.std.proofs.Common.{◌<◌, length, sym, ◌∙◌, arith}
-use Rattle.gpu_block_chunks.specs.ChunkIds.{ids_in}
-use Rattle.gpu_block_chunks.proofs.IdSlots.{id_of_entry, no_id}
-use Rattle.gpu_block_chunks.proofs.IdRows.{ids_length}
-use Rattle.gpu_block_chunks.proofs.IdGrowth.{entry_read, still_new, still_vacant, wrote, passed}
+use Rattle.std.proofs.Common.{ℕ, Some, ◌<◌, ◌≤◌, take, set, length, sym, ap, ◌∙◌, subst, arith}
+use Rattle.std.proofs.lemmas.List.{length-set}
+use Rattle.gpu_block_chunks.specs.ChunkIds.{id_of, ids_of, AreChains}
+use Rattle.gpu_block_chunks.proofs.IdsOf.{ids_at, ids_long, below_in, below_new, below_few, below_vacant, chained_more, chained_same}
 use Rattle.gpu_block_chunks.proofs.chain.chunk_ids.ChunkIds.widened.Goals.{in-Some, in_default}
 use Rattle.gpu_block_chunks.proofs.chain.chunk_ids.ChunkIds.widened.Goals as goal
 
-pub insert-requires-clause-new : goal.insert-requires-clause-new
-insert-requires-clause-new c =
-    let es = c.self.inside.entries.items in
+pub link_chunk-requires : goal.link_chunk-requires
+link_chunk-requires c =
+    let chunks = c.args.chunks.now.slots in
     let s = c.loop-slot.slot in
-    let whole = ids_length es in
+    let wide = c.loop-slot.wide in
+    let n = length wide.followers.items in
+    let m = length c.args.self.now.followers.items in
+    let slots = c.loop-slot.invariant.slots in
+    let more = c.requires.more in
+    let had = c.requires.found.enough in
     let end = c.len-slot-end.ensures in
     let test = c.loop-slot-test.true in
-    let inside : s < length es = omega arith in
-    let at = id_of_entry es s c.in-Some.entry (entry_read es s c.index.result.now inside c.index.ensures ∙ sym c.entry.ensures ∙ c.in-Some.is) in
-    rw (c.loop-slot.invariant, ← c.self.view_is)
-    (still_new (ids_in es) c.args.slots s (omega arith) (rw (← c.self.view_is) at c.requires.more) c.in-Some.entry.chunk_id c.self.invariant.distinct at)
-
-pub insert-requires-clause-vacant : goal.insert-requires-clause-vacant
-insert-requires-clause-vacant c =
-    let es = c.self.inside.entries.items in
-    let s = c.loop-slot.slot in
-    let whole = ids_length es in
-    let end = c.len-slot-end.ensures in
-    let test = c.loop-slot-test.true in
-    let inside : s < length es = omega arith in
-    rw (c.loop-slot.invariant, ← c.self.view_is) (still_vacant (ids_in es) c.args.slots s (omega arith) (rw (← c.self.view_is) at c.requires.more))
+    let enough : length chunks ≤ n = omega arith in
+    let within : s < n = omega arith in
+    let here = ap id_of (sym c.in-Some.ensures) in (
+      subst (λ (u : ℕ). AreChains wide.heads.items wide.followers.items (ids_of (take s chunks) u)) (sym slots) c.loop-slot.invariant.chained,
+      (
+        below_in chunks s n,
+        (
+          below_new chunks s n c.in-Some.linked.chunk.chunk_id (λ t at. c.requires.found.chained.distinct t s c.in-Some.linked.chunk.chunk_id (ids_at chunks m t ∙ at) (ids_at chunks m s ∙ here)),
+          below_vacant chunks s n enough within,
+        ),
+      ),
+    )
 
 pub loop-slot-preserved : goal.loop-slot-preserved
 loop-slot-preserved c =
-    let es = c.self.inside.entries.items in
+    let chunks = c.args.chunks.now.slots in
     let s = c.loop-slot.slot in
-    let whole = ids_length es in
+    let slots = c.loop-slot.invariant.slots in
+    let more = c.requires.more in
+    let had = c.requires.found.enough in
     let end = c.len-slot-end.ensures in
     let test = c.loop-slot-test.true in
-    let inside : s < length es = omega arith in
-    let read = entry_read es s c.index.result.now inside c.index.ensures ∙ sym c.entry.ensures in
-    let more = rw (← c.self.view_is) at c.requires.more in
-    elim c.match-entry.branch [
+    let enough : length chunks ≤ c.args.slots = omega arith in
+    let within : s < c.args.slots = omega arith in
+    elim c.match-get.branch [
       | in-Some w ↦
-          w.wide-is ∙ w.insert.ensures ∙ rw (c.loop-slot.invariant, ← c.self.view_is) (wrote (ids_in es) c.args.slots s (omega arith) more w.in-Some.entry.chunk_id
-          (id_of_entry es s w.in-Some.entry (read ∙ w.in-Some.is)))
+          let new = w.link_chunk.new.self in
+          let k = w.in-Some.linked.chunk.chunk_id in
+          let made = subst (λ (u : ℕ). AreChains new.heads.items new.followers.items (set (ids_of (take s chunks) u) s (Some k))) slots w.link_chunk.ensures.chained in
+          rw w.wide-is (record {
+            chained = chained_more chunks s c.args.slots new.heads.items new.followers.items k enough within (ap id_of (sym w.in-Some.ensures)) made;
+            slots = sym made.long ∙ length-set (ids_of (take s chunks) c.args.slots) s (Some k) ∙ ids_long (take s chunks) c.args.slots (below_few chunks s c.args.slots enough);
+          })
       | in_default w ↦
-          w.wide-is ∙ rw (c.loop-slot.invariant, ← c.self.view_is) (passed (ids_in es) c.args.slots s (omega arith) more (no_id es s (read ∙ w.in_default.is)))
+          rw w.wide-is (record {
+            chained = chained_same chunks s c.args.slots c.loop-slot.wide.heads.items c.loop-slot.wide.followers.items enough (ap id_of (sym w.in_default.ensures)) c.loop-slot.invariant.chained;
+            slots = slots;
+          })
     ]
