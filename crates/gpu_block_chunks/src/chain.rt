@@ -16,7 +16,7 @@ mod slot_link;
 mod slots;
 
 use crate::chunk::{ChunkView, is_free};
-use crate::name::Name;
+use crate::name::{Name, NewName};
 use gpu_cost::Cost;
 use gpu_values::AllocationType;
 use link::{Link, LinkedChunk, LinkedView, chunk_id_of};
@@ -140,7 +140,7 @@ impl Chain {
             kind: AllocationType::Free,
             chunk_id: 1,
         };
-        nodes.put(1, LinkedChunk::new(here, 0, Name::empty(), None, None));
+        nodes.put(1, LinkedChunk::new(here, 0, NewName::empty(), None, None));
         Ok(Chain {
             nodes,
             first: 1,
@@ -206,14 +206,14 @@ impl Chain {
         taken: u64,
         offset: u64,
         kind: AllocationType,
-        name: Name,
+        name: NewName<'_>,
         cost: &mut Cost,
     )
         requires longer { IsLonger self.old.chunks chunk_id taken }
         requires positive { 0 < taken }
         requires fresh { HasNoChunkId self.old.chunks new }
         requires room { 0 < self.old.room }
-        ensures chunks { IsSplit self.old.chunks chunk_id taken new offset kind name
+        ensures chunks { IsSplit self.old.chunks chunk_id taken new offset kind name.entry
             self.new.chunks }
         ensures size { self.new.size ≡ self.old.size }
         ensures counted { LooksUpBetween 3 4 cost.old cost.new }
@@ -245,16 +245,16 @@ impl Chain {
         chunk_id: u64,
         offset: u64,
         kind: AllocationType,
-        name: Name,
+        name: NewName<'_>,
         cost: &mut Cost,
     )
         requires there { HasChunkId self.old.chunks chunk_id }
-        ensures chunks { IsFilled self.old.chunks chunk_id offset kind name self.new.chunks }
+        ensures chunks { IsFilled self.old.chunks chunk_id offset kind name.entry self.new.chunks }
         ensures size { self.new.size ≡ self.old.size }
         ensures counted { LooksUp 1 cost.old cost.new }
     {
         let at = self.nodes.link_to(chunk_id);
-        set_use(&mut self.nodes, at, offset, kind, name, cost);
+        set_use(&mut self.nodes, at, offset, kind, Name::of(name), cost);
         // a read, so that the proof has the invariant
         let _size = self.size;
     }

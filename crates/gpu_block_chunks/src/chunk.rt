@@ -2,8 +2,9 @@
 
 ghost use Rattle.std.specs.Prelude.{◌≡◌, IsTrue, ◌↔◌};
 
-use crate::name::Name;
+use crate::name::{Name, NewName};
 use gpu_values::AllocationType;
+use std::marker::Model;
 
 /// The bytes `start..start + size` of a block, which belong to one piece or are free.
 #[derive(Drop)]
@@ -15,6 +16,33 @@ pub struct Chunk {
     /// Where the piece begins: what lies before it in the chunk is padding.
     pub offset: u64,
     pub name: Name,
+}
+
+/// A chunk that is to be put into a slot, with its name made ready.
+#[derive(Drop)]
+pub struct NewChunk<'a> {
+    pub start: u64,
+    pub size: u64,
+    pub kind: AllocationType,
+    pub chunk_id: u64,
+    /// Where the piece begins: what lies before it in the chunk is padding.
+    pub offset: u64,
+    pub name: NewName<'a>,
+}
+
+impl<'a> Model for NewChunk<'a> {
+    ghost use Rattle.gpu_block_chunks.specs.declared.chunk.Chunk.{Chunk};
+
+    ghost Value = { Chunk };
+
+    ghost view = { λ c. record {
+      start = c.start;
+      size = c.size;
+      kind = c.kind;
+      chunk_id = c.chunk_id;
+      offset = c.offset;
+      name = c.name;
+    } };
 }
 
 /// What is read of a chunk: its numbers, and its name lent.

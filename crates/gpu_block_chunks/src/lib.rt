@@ -8,5 +8,5 @@ mod walk;
 
 pub use chain::{Chain, Neighbour, Neighbours};
 pub use chunk::{Chunk, ChunkView, is_free};
-pub use name::Name;
+pub use name::{Name, NewName};
 pub use walk::Walk;

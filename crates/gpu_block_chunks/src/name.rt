@@ -26,21 +26,25 @@ impl Model for Short {
 }
 
 impl Short {
-    /// A name of at most thirty bytes.
-    fn new(name: &str) -> Option<Short>
-        ensures { MatchOption result (30 < length name.now)
-            (λ s. (length name.now ≤ 30) × (s ≡ name.now)) }
+    /// The text of a gap's name.
+    fn empty() -> Short
+        ensures { result ≡ [] }
     {
-        let length = name.len();
-        if length > SHORT {
-            return None;
+        Short {
+            length: 0,
+            bytes: [0; SHORT],
         }
-        let mut bytes = [0; SHORT];
-        bytes[..length].copy_from_slice(name.as_bytes());
-        Some(Short {
-            length: length as u8,
-            bytes,
-        })
+    }
+
+    /// Copies another text into it.
+    #[inline(always)]
+    fn set(&mut self, text: &str)
+        requires { length text.now ≤ 30 }
+        ensures { self.new ≡ text.now }
+    {
+        let length = text.len();
+        self.bytes[..length].copy_from_slice(text.as_bytes());
+        self.length = length as u8;
     }
 
     fn as_str(&self) -> &str
@@ -80,10 +84,7 @@ impl Name {
         ensures { result ≡ [] }
     {
         Name {
-            text: Text::Short(Short {
-                length: 0,
-                bytes: [0; SHORT],
-            }),
+            text: Text::Short(Short::empty()),
         }
     }
 
@@ -92,11 +93,43 @@ impl Name {
         ensures text { IfOk result (λ n. n ≡ name.now) }
         ensures short { length name.now ≤ 30 → IsOk result }
     {
-        let text = match Short::new(name) {
-            Some(short) => Text::Short(short),
-            None => Text::Long(String::from_str(alloc, name)?),
-        };
-        Ok(Name { text })
+        Ok(Name::of(NewName::new(alloc, name)?))
+    }
+
+    /// The name that was made ready. It takes no memory.
+    pub fn of(new: NewName<'_>) -> Name
+        ensures { result ≡ new.entry }
+    {
+        let mut name = Name::empty();
+        name.set(new);
+        name
+    }
+
+    /// Puts a name that was made ready in its place. It takes no memory.
+    #[inline(always)]
+    pub fn set(&mut self, new: NewName<'_>)
+        ensures { self.new ≡ new.entry }
+    {
+        match new.text {
+            NewText::Short(text) => self.copy(text),
+            NewText::Long(text) => self.text = Text::Long(text),
+        }
+    }
+
+    /// Copies a short text into it.
+    #[inline(always)]
+    fn copy(&mut self, text: &str)
+        requires { length text.now ≤ 30 }
+        ensures { self.new ≡ text.now }
+    {
+        match &mut self.text {
+            Text::Short(short) => short.set(text),
+            Text::Long(_) => {
+                let mut short = Short::empty();
+                short.set(text);
+                self.text = Text::Short(short);
+            }
+        }
     }
 
     /// Its text.
@@ -107,5 +140,53 @@ impl Name {
             Text::Short(short) => short.as_str(),
             Text::Long(long) => long.as_str(),
         }
+    }
+}
+
+#[derive(Drop)]
+enum NewText<'a> {
+    Short(&'a str),
+    Long(String),
+}
+
+/// A name that is ready to be put where it is to lie: a short one is copied there, and the memory of a longer one has been taken.
+#[derive(Drop)]
+pub struct NewName<'a> {
+    text: NewText<'a>,
+}
+
+impl<'a> Model for NewName<'a> {
+    ghost use Rattle.std.specs.Prelude.{List, ℕ};
+    ghost use Rattle.gpu_block_chunks.specs.Name.{bytes_of_new, IsReady};
+
+    ghost Value = { List ℕ };
+
+    ghost view = { λ n. bytes_of_new n.text };
+
+    ghost invariant = { λ n. IsReady n.text };
+}
+
+impl<'a> NewName<'a> {
+    /// The name of a gap.
+    pub fn empty() -> NewName<'a>
+        ensures { result ≡ [] }
+    {
+        NewName {
+            text: NewText::Short(""),
+        }
+    }
+
+    /// A name with that text. Only one of more than thirty bytes takes memory, and can be refused.
+    #[inline(always)]
+    pub fn new(alloc: Global, name: &'a str) -> Result<NewName<'a>, AllocError>
+        ensures text { IfOk result (λ n. n ≡ name.now) }
+        ensures short { length name.now ≤ 30 → IsOk result }
+    {
+        let text = if name.len() <= SHORT {
+            NewText::Short(name)
+        } else {
+            NewText::Long(String::from_str(alloc, name)?)
+        };
+        Ok(NewName { text })
     }
 }

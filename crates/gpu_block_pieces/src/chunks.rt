@@ -11,7 +11,7 @@ ghost use Rattle.gpu_block_pieces.specs.Indexed.{HasSame, gaps_between, ArePlace
 use crate::place::Wanted;
 use crate::search::Found;
 use crate::update::{allocate_front, allocate_whole, release};
-use gpu_block_chunks::{Chain, ChunkView, Name, Walk, is_free};
+use gpu_block_chunks::{Chain, ChunkView, NewName, Walk, is_free};
 use gpu_block_gaps::{Gap, GapIndex};
 use gpu_cost::Cost;
 use gpu_values::AllocationType;
@@ -96,7 +96,7 @@ impl Chunks {
         found: Found,
         wanted: &Wanted,
         counter: u64,
-        name: Name,
+        name: NewName<'_>,
         cost: &mut Cost,
     ) -> Result<u64, AllocError>
         requires chosen { IsChosen self.old.items wanted.now found }
@@ -105,7 +105,7 @@ impl Chunks {
         requires fresh { HasNoChunkId self.old.items counter }
         ensures taken { IfOk result (λ chunk_id. (h : IsChosen self.old.items wanted.now found)
             → IsTaken self.old.items (chosen_at self.old.items wanted.now found h) wanted.now
-            counter name chunk_id self.new.items) }
+            counter name.entry chunk_id self.new.items) }
         ensures refused { OnErr result (self.new.items ≡ self.old.items) }
         ensures size { self.new.size ≡ self.old.size }
         // three or four look-ups where a rest is left, and one where none is
@@ -197,12 +197,12 @@ impl Chunks {
         chunk_id: u64,
         offset: u64,
         kind: AllocationType,
-        text: Name,
+        text: NewName<'_>,
         cost: &mut Cost,
     )
         requires piece { IsPieceOf self.old.items chunk_id offset kind }
         ensures named { (i : ℕ) → HoldsChunkId self.old.items chunk_id i
-            → IsNamedAt self.old.items i text self.new.items }
+            → IsNamedAt self.old.items i text.entry self.new.items }
         ensures size { self.new.size ≡ self.old.size }
         ensures counted { LooksUp 1 cost.old cost.new }
     {

@@ -9,7 +9,7 @@ ghost use Rattle.gpu_values.specs.declared.error.AllocationError.TheVariants.{Ho
 use crate::chunks::Chunks;
 use crate::place::Wanted;
 use crate::search::{Found, find};
-use gpu_block_chunks::Name;
+use gpu_block_chunks::NewName;
 use gpu_cost::Cost;
 use gpu_values::{AllocationError, AllocationType, Result, internal_fault};
 use std::alloc::Global;
@@ -136,7 +136,7 @@ impl FreeListAllocator {
         if rest && self.counter == u64::MAX {
             return Err(AllocationError::OutOfMemory);
         }
-        let text = Name::new(self.alloc, name)?;
+        let text = NewName::new(self.alloc, name)?;
         let chunk_id = self
             .chunks
             .allocate(found, &wanted, self.counter, text, &mut self.cost)?;
@@ -201,7 +201,7 @@ impl FreeListAllocator {
         };
         let offset = piece.offset;
         let kind = piece.kind;
-        let new_name = Name::new(self.alloc, name)?;
+        let new_name = NewName::new(self.alloc, name)?;
         self.chunks
             .rename(id.get(), offset, kind, new_name, &mut self.cost);
         Ok(())

@@ -4,8 +4,8 @@ ghost use Rattle.std.specs.Prelude.{◌≡◌};
 ghost use Rattle.gpu_block_chunks.specs.Nodes.{link_chunk_id, link_slot};
 
 use super::Neighbour;
-use crate::chunk::{Chunk, ChunkView};
-use crate::name::Name;
+use crate::chunk::{ChunkView, NewChunk};
+use crate::name::NewName;
 
 /// Where a chunk is found: its number, and the slot that it stands in.
 #[derive(Clone, Copy)]
@@ -14,11 +14,11 @@ pub struct Link {
     pub slot: u32,
 }
 
-/// A chunk, and the slots of the ones beside it.
+/// A chunk that is to be put into a slot, and the slots of the ones beside it.
 #[derive(Drop)]
-pub struct LinkedChunk {
+pub struct LinkedChunk<'a> {
     pub prev: Option<u32>,
-    pub chunk: Chunk,
+    pub chunk: NewChunk<'a>,
     pub next: Option<u32>,
 }
 
@@ -30,15 +30,15 @@ pub struct LinkedView<'a> {
     pub next: Option<u32>,
 }
 
-impl LinkedChunk {
+impl<'a> LinkedChunk<'a> {
     /// The chunk of that name, where it stands there and these are beside it.
     pub fn new(
         here: Neighbour,
         offset: u64,
-        name: Name,
+        name: NewName<'a>,
         prev: Option<u32>,
         next: Option<u32>,
-    ) -> LinkedChunk
+    ) -> LinkedChunk<'a>
         ensures links { (result.prev ≡ prev) × (result.next ≡ next) }
         ensures value { result.chunk ≡ record {
           start = here.start;
@@ -46,10 +46,10 @@ impl LinkedChunk {
           offset = offset;
           kind = here.kind;
           chunk_id = here.chunk_id;
-          name = name;
+          name = name.entry;
         } }
     {
-        let chunk = Chunk {
+        let chunk = NewChunk {
             start: here.start,
             size: here.size,
             offset,

@@ -134,13 +134,13 @@ impl Nodes {
 
     /// Puts a chunk under its number, which no other has. There is room for it, so no memory is taken.
     #[inline(always)]
-    pub fn put(&mut self, chunk_id: u64, chunk: LinkedChunk) -> Link
+    pub fn put(&mut self, chunk_id: u64, chunk: LinkedChunk<'_>) -> Link
         requires room { 0 < room_of self.old }
         requires numbered { (chunk.chunk).chunk_id ≡ chunk_id }
         requires unlinked { IsUnlinked chunk_id (held_at self.old) }
         requires prev { IsTaken self.old.ids chunk.prev }
         requires next { IsTaken self.old.ids chunk.next }
-        ensures sets { SetsAt chunk_id (Some (node_value self.old.ids chunk)) (held_at self.old)
+        ensures sets { SetsAt chunk_id (Some (node_value self.old.ids chunk.entry)) (held_at self.old)
             (held_at self.new) }
         ensures link { (result.chunk_id ≡ chunk_id) × Leads self.new (Some result) }
         ensures links { KeepsReached self.old self.new }

@@ -10,7 +10,7 @@ ghost use Rattle.gpu_block_chunks.specs.FreeSlots.{Taken, slot_of};
 use super::link::{LinkedChunk, LinkedView};
 use super::slot_link::SlotLink;
 use crate::chunk::ChunkView;
-use crate::name::Name;
+use crate::name::{Name, NewName};
 use gpu_values::AllocationType;
 use std::alloc::{AllocError, Global};
 use std::marker::Model;
@@ -35,10 +35,10 @@ struct Cell {
 const _: () = prove!(size_of::<Cell>() == 48);
 
 /// The cell of a chunk, and its name.
-fn parts(linked: LinkedChunk) -> (Cell, Name)
+fn parts<'a>(linked: LinkedChunk<'a>) -> (Cell, NewName<'a>)
     requires prev { IfSome linked.prev IsLinkable }
     requires next { IfSome linked.next IsLinkable }
-    ensures { slot_of result.0 result.1 ≡ Taken linked }
+    ensures { slot_of result.0 result.1 ≡ Taken linked.entry }
 {
     let LinkedChunk { prev, chunk, next } = linked;
     let cell = Cell {
@@ -225,13 +225,14 @@ impl Slots {
     }
 
     /// Puts a chunk into the first free slot, or into a new one. There is room for it, so no memory is taken.
-    pub fn insert_reserved(&mut self, chunk: LinkedChunk) -> usize
+    #[inline(always)]
+    pub fn insert_reserved(&mut self, chunk: LinkedChunk<'_>) -> usize
         requires room { 0 < self.old.room }
         requires few { taken self.old + 1 < 2 ^ 32 }
         requires prev { IfSome chunk.prev IsLinkable }
         requires next { IfSome chunk.next IsLinkable }
         ensures was_free { chunk_at self.old result ≡ None }
-        ensures changes { ChangesSlot self.old self.new result (Some chunk) }
+        ensures changes { ChangesSlot self.old self.new result (Some chunk.entry) }
         ensures count { taken self.new ≡ taken self.old + 1 }
         ensures first { IsFirst self.old self.new result }
         ensures room { self.new.room + 1 ≡ self.old.room }
@@ -241,13 +242,13 @@ impl Slots {
         let Some(slot) = self.free.slot() else {
             let slot = self.cells.len();
             self.cells.push_reserved(cell);
-            self.names.push_reserved(text);
+            self.names.push_reserved(Name::of(text));
             return slot;
         };
         let slot = slot as usize;
         self.free = self.cells[slot].next;
         self.cells[slot] = cell;
-        self.names[slot] = text;
+        self.names[slot].set(text);
         slot
     }
 

@@ -23,7 +23,7 @@ invariant_of-self c =
     let few = rw (← c.self.view_is) at c.requires.few in
     let counted = c.self.invariant.sound.counted in
     let fits : c.self.inside.live + 1 < 2 ^ 32 = omega arith in
-    rw (c.push_reserved.ensures.items, c.push_reserved-in_default.ensures.items)
+    rw (c.push_reserved.ensures.items, c.push_reserved-in_default.ensures.items, c.of.ensures)
     (pushed_sound c.self.inside.cells.items c.self.inside.names.items c.self.inside.live c.self.inside.free c.self.invariant (sym c.slot.ensures ∙ c.in_default.is) c.parts-cell.result.0 c.parts-cell.result.1 c.args.chunk c.parts-cell.ensures fits)
 
 pub returns-in_default-clause-was_free : goal.returns-in_default-clause-was_free
@@ -35,18 +35,18 @@ returns-in_default-clause-was_free c =
 pub returns-in_default-clause-changes : goal.returns-in_default-clause-changes
 returns-in_default-clause-changes c =
     let at : c.len-slot.result ≡ length c.self.inside.cells.items = omega arith in
-    rw (← c.self.view_is, at, c.push_reserved.ensures.items, c.push_reserved-in_default.ensures.items)
+    rw (← c.self.view_is, at, c.push_reserved.ensures.items, c.push_reserved-in_default.ensures.items, c.of.ensures)
     (pushed_changes c.self.inside.cells.items c.self.inside.names.items c.self.inside.live c.self.inside.free c.self.invariant (sym c.slot.ensures ∙ c.in_default.is) c.parts-cell.result.0 c.parts-cell.result.1 c.args.chunk c.parts-cell.ensures _ _)
 
 pub returns-in_default-clause-count : goal.returns-in_default-clause-count
 returns-in_default-clause-count c =
-    rw (← c.self.view_is, c.push_reserved.ensures.items, c.push_reserved-in_default.ensures.items)
+    rw (← c.self.view_is, c.push_reserved.ensures.items, c.push_reserved-in_default.ensures.items, c.of.ensures)
     (pushed_count c.self.inside.cells.items c.self.inside.names.items c.self.inside.live c.self.inside.free c.self.invariant (sym c.slot.ensures ∙ c.in_default.is) c.parts-cell.result.0 c.parts-cell.result.1 c.args.chunk c.parts-cell.ensures)
 
 pub returns-in_default-clause-first : goal.returns-in_default-clause-first
 returns-in_default-clause-first c =
     let at : c.len-slot.result ≡ length c.self.inside.cells.items = omega arith in
-    rw (← c.self.view_is, at, c.push_reserved.ensures.items, c.push_reserved-in_default.ensures.items)
+    rw (← c.self.view_is, at, c.push_reserved.ensures.items, c.push_reserved-in_default.ensures.items, c.of.ensures)
     (pushed_first c.self.inside.cells.items c.self.inside.names.items c.self.inside.live c.self.inside.free c.self.invariant (sym c.slot.ensures ∙ c.in_default.is) c.parts-cell.result.0 c.parts-cell.result.1 c.args.chunk c.parts-cell.ensures 0 0)
 
 -- ---- the first free slot is filled
@@ -68,23 +68,23 @@ index_mut-requires-2 c =
 
 pub invariant_of-self-2 : goal.invariant_of-self-2
 invariant_of-self-2 c =
-    filled_sound c.self.inside.cells.items c.self.inside.names.items c.self.inside.live c.self.inside.free c.self.invariant c.in-Some.slot (sym c.slot.ensures ∙ c.in-Some.is) c.parts-cell.result.0 c.parts-cell.result.1
-    c.args.chunk c.parts-cell.ensures c.index.result.now c.index.ensures
+    rw c.set.ensures (filled_sound c.self.inside.cells.items c.self.inside.names.items c.self.inside.live c.self.inside.free c.self.invariant c.in-Some.slot (sym c.slot.ensures ∙ c.in-Some.is) c.parts-cell.result.0 c.parts-cell.result.1
+    c.args.chunk c.parts-cell.ensures c.index.result.now c.index.ensures)
 
 pub returns-clause-was_free : goal.returns-clause-was_free
 returns-clause-was_free c = rw (← c.self.view_is) (filled_was_free c.self.inside.cells.items c.self.inside.names.items c.self.inside.live c.self.inside.free c.self.invariant c.in-Some.slot (sym c.slot.ensures ∙ c.in-Some.is) 0)
 
 pub returns-clause-changes : goal.returns-clause-changes
 returns-clause-changes c =
-    rw (← c.self.view_is) (filled_changes c.self.inside.cells.items c.self.inside.names.items c.self.inside.live c.self.inside.free c.self.invariant c.in-Some.slot (sym c.slot.ensures ∙ c.in-Some.is)
+    rw (← c.self.view_is, c.set.ensures) (filled_changes c.self.inside.cells.items c.self.inside.names.items c.self.inside.live c.self.inside.free c.self.invariant c.in-Some.slot (sym c.slot.ensures ∙ c.in-Some.is)
     c.parts-cell.result.0 c.parts-cell.result.1 c.args.chunk c.parts-cell.ensures _ _)
 
 pub returns-clause-count : goal.returns-clause-count
 returns-clause-count c =
-    rw (← c.self.view_is) (filled_count c.self.inside.cells.items c.self.inside.names.items c.self.inside.live c.self.inside.free c.self.invariant c.in-Some.slot (sym c.slot.ensures ∙ c.in-Some.is)
+    rw (← c.self.view_is, c.set.ensures) (filled_count c.self.inside.cells.items c.self.inside.names.items c.self.inside.live c.self.inside.free c.self.invariant c.in-Some.slot (sym c.slot.ensures ∙ c.in-Some.is)
     c.parts-cell.result.0 c.parts-cell.result.1 c.args.chunk c.parts-cell.ensures)
 
 pub returns-clause-first : goal.returns-clause-first
 returns-clause-first c =
-    rw (← c.self.view_is) (filled_first c.self.inside.cells.items c.self.inside.names.items c.self.inside.live c.self.inside.free c.self.invariant c.in-Some.slot (sym c.slot.ensures ∙ c.in-Some.is)
+    rw (← c.self.view_is, c.set.ensures) (filled_first c.self.inside.cells.items c.self.inside.names.items c.self.inside.live c.self.inside.free c.self.invariant c.in-Some.slot (sym c.slot.ensures ∙ c.in-Some.is)
     c.parts-cell.result.0 c.parts-cell.result.1 c.args.chunk c.parts-cell.ensures 0 0)
