@@ -43,16 +43,21 @@ fn tag_of(kind: AllocationType) -> u32
     }
 }
 
+/// The kinds of the tags, of which the last is no slot's: a look at a table is quicker than tests of the tag.
+static KINDS: [AllocationType; 4] = [
+    AllocationType::Free,
+    AllocationType::Linear,
+    AllocationType::NonLinear,
+    AllocationType::NonLinear,
+];
+
 /// The kind of a tag.
 #[inline(always)]
 fn kind_of(tag: u32) -> AllocationType
+    requires { tag < 4 }
     ensures { result ≡ kind_numbered tag }
 {
-    match tag {
-        0 => AllocationType::Free,
-        1 => AllocationType::Linear,
-        _ => AllocationType::NonLinear,
-    }
+    KINDS[tag as usize]
 }
 
 impl TaggedSlot {
