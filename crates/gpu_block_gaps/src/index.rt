@@ -25,11 +25,11 @@ const MOST_GAPS: usize = (1 << 30) - 2;
 /// For how many gaps more there is room at least, once it grows.
 const LEAST_GROWTH: usize = 4;
 
-/// For how many gaps there is room after it grew. Records are long, so that it grows by a thirty-second, and not to the double.
+/// For how many gaps there is room after it grew. Records are long, so that it grows by a sixteenth, and not to the double.
 fn grown(room: usize) -> usize
     ensures { result + 1 < 2 ^ 30 }
 {
-    MOST_GAPS.min(room.saturating_add(LEAST_GROWTH.max(room / 32)))
+    MOST_GAPS.min(room.saturating_add(LEAST_GROWTH.max(room / 16)))
 }
 
 /// How many digits serve that many gaps. Each digit more halves the gaps of a class, and doubles the table of the classes.

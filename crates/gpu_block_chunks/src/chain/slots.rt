@@ -116,7 +116,7 @@ impl Slots {
     }
 
     /// Makes room for that many more chunks, and for their names. A refusal changes no slot. Slots are long, so their room grows by a
-    /// thirty-second, and not to the double.
+    /// sixteenth, and not to the double.
     pub fn reserve(&mut self, more: usize) -> Result<(), AllocError>
         ensures same { self.new.slots ≡ self.old.slots }
         ensures room { OnOk result (more ≤ self.new.room) }
@@ -126,7 +126,7 @@ impl Slots {
             return Ok(());
         }
         let free = self.cells.len() - self.live;
-        let more = more.max(self.live / 32).max(LEAST_GROWTH);
+        let more = more.max(self.live / 16).max(LEAST_GROWTH);
         self.names.reserve_exact(more - free)?;
         self.cells.reserve_exact(more - free)
     }
