@@ -198,9 +198,9 @@ class Allocator:
         block.free(got.extent)
         if not block.extents and (isinstance(block, Dedicated) or several):
             got.of_type.slots[got.slot] = None
-            self.take_back(block.handle)
+            self.free_memory(block.handle)
 
-    def take_back(self, handle):
+    def free_memory(self, handle):
         """The driver's object behind a block goes back."""
 
     def sum_of_blocks(self):
@@ -379,7 +379,7 @@ class Numbered(Allocator):
         self.issued, self.held = self.issued + 1, self.held + 1
         return self.issued
 
-    def take_back(self, handle):
+    def free_memory(self, handle):
         self.held -= 1
 
     def allocate(self, of_type, size, alignment, name):
@@ -442,8 +442,8 @@ class Metal(Numbered):
             self.set[0].append(number)
         return number
 
-    def take_back(self, handle):
-        super().take_back(handle)
+    def free_memory(self, handle):
+        super().free_memory(handle)
         if self.set:
             self.set[0].remove(handle)
 
