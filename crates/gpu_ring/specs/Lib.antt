@@ -1,0 +1,5 @@
+pub mod Line
+pub mod Fit
+pub mod RingState
+pub mod Calls
+pub mod Runs

@@ -1,0 +1,4 @@
+//! Rings of few bytes.
+
+mod refused;
+mod rows;
