@@ -8,9 +8,9 @@ use Rattle.std.proofs.lemmas.List.Elements.{All-nil, All-cons, All-head, All-tai
 use Rattle.std.proofs.lemmas.List.Sums.{sum_by-cons}
 use Rattle.std.proofs.lemmas.Option.{slice_get-map, slice_get-get_or, get_or_from_slice_get}
 use Rattle.std.proofs.Math.Seq.{map-set_same}
-use Rattle.gpu_core.specs.TypeState.{TypeState, Slot, capacity_of}
+use Rattle.gpu_core.specs.TypeState.{TypeState, Slot, capacity_of, KeepsOneEmptyAtMost}
 use Rattle.gpu_core.specs.Slots.{AreSound}
-use Rattle.gpu_core.specs.Blocks.{Slots, slots_at, total_capacity, BlocksWellFormed}
+use Rattle.gpu_core.specs.Blocks.{Slots, slots_at, total_capacity, BlocksWellFormed, EachKeepsOneEmptyAtMost}
 use Rattle.gpu_core.specs.Budgets.{budgets}
 use Rattle.gpu_core.specs.Types.{Types, slots_of, kinds, type_of, no_type, MemoryTypesInvariant}
 use Rattle.gpu_core.proofs.Options.{none_some, some_same}
@@ -20,6 +20,13 @@ kind t = (t.is_host, t.granularity)
 
 abbrev pub WellFormed : {H : Type 0} → TypeState H → Type 0
 WellFormed t = AreSound t.granularity t.slots
+
+abbrev pub OneEmpty : {H : Type 0} → TypeState H → Type 0
+OneEmpty t = KeepsOneEmptyAtMost t.slots
+
+-- no slots have no empty block
+pub none_empty : {H : Type 0} → KeepsOneEmptyAtMost {H = H} []
+none_empty = record { one = λ i j here there. absurd here; whole = λ i here. absurd here }
 
 pub kinds_set : {H : Type 0} (types : Types H) (i : ℕ) (old new : TypeState H) → slice_get types i ≡ Some old
     → new.is_host ≡ old.is_host → new.granularity ≡ old.granularity → kinds (slice_set types i new) ≡ kinds types
@@ -102,27 +109,34 @@ all_set P (y ∷ ys) (suc i) x all here = All-cons P y (slice_set ys i x) (All-h
 
 -- one type changes to one that is well formed, and the sum stays in 64 bits
 pub invariant_set : {H : Type 0} (types : Types H) (i : ℕ) (old new : TypeState H) → slice_get types i ≡ Some old → i < length types
-    → MemoryTypesInvariant types → WellFormed new → (total_capacity (slots_of types) + capacity_of new.slots < 2 ^ 64 + capacity_of old.slots)
+    → MemoryTypesInvariant types → WellFormed new → OneEmpty new → (total_capacity (slots_of types) + capacity_of new.slots < 2 ^ 64 + capacity_of old.slots)
     → MemoryTypesInvariant (slice_set types i new)
-invariant_set {H} types i old new at below inv good fits =
+invariant_set {H} types i old new at below inv good one fits =
     let long = length-map types (λ (t : TypeState H). t.slots) in
     let total = total_set (slots_of types) i new.slots (omega (arith, below, long)) in
     let set = ap (λ (ss : Slots H). total_capacity ss) (slots_set types i new) in
     let was = ap (λ (ss : List (Option (Slot H))). capacity_of ss) (slots_are types i old at) in
     record {
       well_formed = all_set WellFormed types i new inv.well_formed good;
+      empty = all_set OneEmpty types i new inv.empty one;
       sum = omega (arith, total, set, was, fits);
     }
 
 -- memory types without blocks
 pub invariant_empty : {H : Type 0} (types : Types H) → All (λ slots. slots ≡ []) (slots_of types) → MemoryTypesInvariant types
-invariant_empty types empty = record { well_formed = formed types empty; sum = none types empty }
+invariant_empty types empty = record { well_formed = formed types empty; empty = ones types empty; sum = none types empty }
   where
     formed : {H : Type 0} (types : Types H) → All (λ slots. slots ≡ []) (slots_of types) → All WellFormed types
     formed [] empty = All-nil WellFormed
     formed (t ∷ ts) empty =
         All-cons WellFormed t ts (subst (AreSound t.granularity) (sym (All-head (λ slots. slots ≡ []) t.slots (slots_of ts) empty)) (λ i. tt))
         (formed ts (All-tail (λ slots. slots ≡ []) t.slots (slots_of ts) empty))
+
+    ones : {H : Type 0} (types : Types H) → All (λ slots. slots ≡ []) (slots_of types) → All OneEmpty types
+    ones [] empty = All-nil OneEmpty
+    ones (t ∷ ts) empty =
+        All-cons OneEmpty t ts (subst KeepsOneEmptyAtMost (sym (All-head (λ slots. slots ≡ []) t.slots (slots_of ts) empty)) none_empty)
+        (ones ts (All-tail (λ slots. slots ≡ []) t.slots (slots_of ts) empty))
 
     none : {H : Type 0} (types : Types H) → All (λ slots. slots ≡ []) (slots_of types) → total_capacity (slots_of types) < 2 ^ 64
     none [] empty = omega arith
@@ -151,6 +165,16 @@ type_sound types kept t =
     let there = type_there types t below in
     subst (AreSound (type_of types t).granularity) (slots_are types t (type_of types t) there) (each_at WellFormed types t (type_of types t) kept.well_formed there))
     (λ past. subst (AreSound (type_of types t).granularity) (sym (slots_past types t past)) (λ i. tt))
+    (cases_lt t (length types))
+
+-- at most one block of a memory type is without pieces, also of one that isn't there
+pub type_empty : {H : Type 0} (types : Types H) → MemoryTypesInvariant types → EachKeepsOneEmptyAtMost (slots_of types)
+type_empty types kept t =
+    ⊎_elim
+    (λ (below : t < length types).
+    let there = type_there types t below in
+    subst KeepsOneEmptyAtMost (slots_are types t (type_of types t) there) (each_at OneEmpty types t (type_of types t) kept.empty there))
+    (λ past. subst KeepsOneEmptyAtMost (sym (slots_past types t past)) none_empty)
     (cases_lt t (length types))
 
 -- another memory type is as it was

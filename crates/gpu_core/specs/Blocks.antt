@@ -1,7 +1,7 @@
 -- The live blocks of all memory types of an allocator, by memory type and slot.
 use Rattle.std.specs.Prelude.{ℕ, List, [], Option}
 use Rattle.std.specs.List.{sum_by, slice_index_or}
-use Rattle.gpu_core.specs.TypeState.{Slot, slot_at, capacity_of}
+use Rattle.gpu_core.specs.TypeState.{Slot, slot_at, capacity_of, KeepsOneEmptyAtMost}
 use Rattle.gpu_core.specs.Slots.{AreSound}
 
 -- the slots of each memory type, where H is the driver's handle of a block
@@ -23,3 +23,7 @@ total_capacity slots = sum_by (λ s. capacity_of s) slots
 -- the blocks of all memory types are well formed, with pages of that size
 abbrev pub BlocksWellFormed : {H : Type 0} → (granularity : ℕ) → Slots H → Type 0
 BlocksWellFormed granularity slots = (t : ℕ) → AreSound granularity (slots_at slots t)
+
+-- of each memory type at most one block is without pieces, and it is a shared one
+abbrev pub EachKeepsOneEmptyAtMost : {H : Type 0} → Slots H → Type 0
+EachKeepsOneEmptyAtMost slots = (t : ℕ) → KeepsOneEmptyAtMost (slots_at slots t)

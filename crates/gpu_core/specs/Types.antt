@@ -1,7 +1,7 @@
 -- The memory types as the code keeps them.
 use Rattle.std.specs.Prelude.{ℕ, ◌^◌, ◌<◌, Bool, false, List, [], map, All, None}
 use Rattle.std.specs.List.{slice_index_or}
-use Rattle.gpu_core.specs.TypeState.{TypeState}
+use Rattle.gpu_core.specs.TypeState.{TypeState, KeepsOneEmptyAtMost}
 use Rattle.gpu_core.specs.Slots.{AreSound}
 use Rattle.gpu_core.specs.Blocks.{Slots, total_capacity}
 
@@ -23,7 +23,8 @@ no_type = record { is_host = false; granularity = 1; slots = []; room = 0; budge
 abbrev pub type_of : {H : Type 0} → Types H → (t : ℕ) → TypeState H
 type_of types t = slice_index_or types t no_type
 
--- the blocks of each memory type are well formed, and the sum of their sizes has 64 bits
+-- the blocks of each memory type are well formed, at most one of them is without pieces, and the sum of their sizes has 64 bits
 pub record MemoryTypesInvariant {H : Type 0} (types : Types H) : Type 0 where
   pub well_formed : All (λ t. AreSound t.granularity t.slots) types
+  pub empty : All (λ t. KeepsOneEmptyAtMost t.slots) types
   pub sum : total_capacity (slots_of types) < 2 ^ 64

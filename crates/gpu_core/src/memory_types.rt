@@ -1,6 +1,6 @@
 //! The memory types of one allocator: one of them prepares a request, takes a new block in, or gives a piece back.
 
-ghost use Rattle.std.specs.Prelude.{◌≡◌, ◌≢◌, ℕ, ◌+◌, ◌^◌, ◌<◌, ◌≤◌, ◌↔◌, [], All, length, Some, None, IfOk, IfErr, IsOk, OnOk, OnErr, IsTrue, map, string_bytes, codes};
+ghost use Rattle.std.specs.Prelude.{◌≡◌, ◌≢◌, ℕ, ◌+◌, ◌^◌, ◌<◌, ◌≤◌, ◌↔◌, [], All, length, Some, None, IfOk, IfErr, IsOk, IsErr, OnOk, OnErr, IsTrue, map, string_bytes, codes};
 ghost use Rattle.std.specs.Int.{is_power_of_two};
 ghost use Rattle.std.specs.List.{slice_set, slice_get};
 ghost use Rattle.std.specs.Option.{option_map};
@@ -100,7 +100,7 @@ impl<H: Copy + Eq> MemoryTypes<H> {
     ghost use Rattle.gpu_block_pieces.specs.Leak.{leak_text};
     ghost use Rattle.gpu_core.specs.declared.piece.Piece.{Piece};
     ghost use Rattle.gpu_core.specs.Apart.{IsInside, AreDistinct, SharesNoByte, KeepsPages};
-    ghost use Rattle.gpu_core.specs.Blocks.{slots_at, total_capacity};
+    ghost use Rattle.gpu_core.specs.Blocks.{slots_at, total_capacity, EachKeepsOneEmptyAtMost};
     ghost use Rattle.gpu_core.specs.Leaks.{all_leaks};
     ghost use Rattle.gpu_core.specs.Live.{IsLiveIn};
     ghost use Rattle.gpu_core.specs.Release.{ReleasesAt, IsReleaseRefusal};
@@ -141,6 +141,7 @@ impl<H: Copy + Eq> MemoryTypes<H> {
         ensures budgets { SetsBudget index budget (budgets self.old) (refusal_in result)
             (budgets self.new) }
         ensures found { index < length (slots_of self.old) → IsOk result }
+        ensures missing { length (slots_of self.old) ≤ index → IsErr result }
         ensures slots { slots_of self.new ≡ slots_of self.old }
         ensures kinds { kinds self.new ≡ kinds self.old }
         ensures refused { OnErr result (self.new ≡ self.old) }
@@ -256,8 +257,8 @@ impl<H: Copy + Eq> MemoryTypes<H> {
         self.types[index].rename(piece, name)
     }
 
-    /// What holds of live pieces at any time, for callers' proofs: each lies inside its block, no two share a byte, and those
-    /// of different kinds share no page of their memory type. It does nothing.
+    /// What holds of live pieces at any time, for callers' proofs: each lies inside its block, no two share a byte, those of
+    /// different kinds share no page of their memory type, and at most one block of a memory type has none. It does nothing.
     pub fn pieces_are_apart(&self)
         ensures inside { (t : ℕ) (p : Piece H) → IsLiveIn H.eq (slots_of self.now) t (Some p)
             → IsInside (slots_of self.now) t p }
@@ -268,6 +269,7 @@ impl<H: Copy + Eq> MemoryTypes<H> {
         ensures pages { (t : ℕ) (p q : Piece H) → IsLiveIn H.eq (slots_of self.now) t (Some p)
             → IsLiveIn H.eq (slots_of self.now) t (Some q)
             → KeepsPages (type_of self.now t).granularity (slots_of self.now) t p q }
+        ensures empty { EachKeepsOneEmptyAtMost (slots_of self.now) }
     {
         let _ = &self.types;
     }

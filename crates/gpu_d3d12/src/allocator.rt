@@ -5,7 +5,7 @@ ghost use Rattle.std.specs.Option.{unwrap_or};
 ghost use Rattle.std.specs.FinMap.{get};
 ghost use Rattle.gpu_values.specs.Refusal.{refusal_of, host_out_of_memory};
 ghost use Rattle.gpu_values.specs.declared.error.AllocationError.TheVariants.{HostOutOfMemory};
-ghost use Rattle.gpu_core.specs.Blocks.{total_capacity, BlocksWellFormed};
+ghost use Rattle.gpu_core.specs.Blocks.{total_capacity, BlocksWellFormed, EachKeepsOneEmptyAtMost};
 ghost use Rattle.gpu_core.specs.Budgets.{budget_at, budgets};
 ghost use Rattle.gpu_core.specs.Types.{slots_of, kinds};
 ghost use Rattle.gpu_d3d12.specs.DeviceVersion.{device_of, with_device};
@@ -83,6 +83,7 @@ impl<D: D3D12Device> Allocator<D> {
         ensures empty { IfOk result (λ a. All (λ slots. slots ≡ []) a.slots) }
         ensures types { IfOk result (λ a. length a.slots ≡ length (memory_kinds a.setup.tier)) }
         ensures budgets { IfOk result (λ a. All (λ b. b ≡ None) a.budgets) }
+        ensures bounds { IfOk result (λ a. length a.budgets ≡ length (memory_kinds a.setup.tier)) }
         ensures committed { IfOk result
             (λ a. (length a.committed ≡ length (memory_kinds a.setup.tier))
             × All (λ records. records ≡ []) a.committed) }
@@ -174,13 +175,15 @@ impl<D: D3D12Device> Allocator<D> {
     }
 
     /// What holds of live allocations at any time, for callers' proofs: each lies inside its block, and no two share a
-    /// byte. All blocks are sound, and each memory type has a list of committed resources. It does nothing.
+    /// byte. All blocks are sound, at most one of a memory type has no allocation, and each memory type has a list of committed resources.
+    /// It does nothing.
     pub fn allocations_are_apart(&self)
         ensures sound { BlocksWellFormed 1 self.now.slots }
         ensures lists { length self.now.committed ≡ length (kinds_of_device self.now.setup.tier) }
         ensures inside { (a : Allocation) → IsLive self.now.slots a → IsInside self.now.slots a }
         ensures apart { (a b : Allocation) → IsLive self.now.slots a → IsLive self.now.slots b
             → AreDistinct a b → SharesNoByte a b }
+        ensures empty { EachKeepsOneEmptyAtMost self.now.slots }
     {
         self.pool.pieces_are_apart();
     }
@@ -300,7 +303,7 @@ impl<D: D3D12Device> Allocator<D> {
         }
     }
 
-    /// IsResultOf a resource back, and then its piece, with the block as by `free`, or the memory of its own. One whose piece or
+    /// Gives a resource back, and then its piece, with the block as by `free`, or the memory of its own. One whose piece or
     /// record is live is never refused; any other comes back as it was, beside `Internal`, and then nothing changes. It takes
     /// no memory.
     pub fn free_resource<L: Log>(
@@ -334,7 +337,7 @@ impl<D: D3D12Device> Allocator<D> {
         self.committed.statistics(memory_type)
     }
 
-    /// IsResultOf an allocation another name, and with it the record that reports and leaks show. `Internal` where the
+    /// Gives an allocation another name, and with it the record that reports and leaks show. `Internal` where the
     /// allocation isn't live, else `HostOutOfMemory` where the host refused memory; then both names are as they were.
     pub fn rename_allocation(&mut self, allocation: &mut Allocation, name: &str) -> Result<()>
         ensures renames { RenamesNamed is_same_heap allocation.old name.now (pool_of self.old)

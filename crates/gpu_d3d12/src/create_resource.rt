@@ -127,6 +127,7 @@ pub fn make_placed<D: D3D12Device, L: Log>(
         Err(error) => return Err(error),
         Ok(allocation) => allocation,
     };
+    pool.pieces_are_apart();
     match pool
         .source
         .create_placed(question, desc, allocation.heap(), allocation.offset())

@@ -42,7 +42,7 @@ fn free_placed<D: D3D12Device, L: Log>(
     pool.free_named(allocation)
 }
 
-/// IsResultOf a resource back, and with it its piece or its record. Where that isn't live nothing changes. It takes no memory.
+/// Gives a resource back, and with it its piece or its record. Where that isn't live nothing changes. It takes no memory.
 pub fn free_resource<D: D3D12Device, L: Log>(
     log: &L,
     debug: AllocatorDebugSettings,

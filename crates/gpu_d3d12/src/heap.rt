@@ -108,7 +108,7 @@ pub fn create_block_heap<D: D3D12Device>(device: &mut D, desc: &HeapDesc) -> Res
     }
 }
 
-/// IsResultOf the heap of a block back. Never refused.
+/// Gives the heap of a block back. Never refused.
 pub fn release_block_heap<D: D3D12Device>(device: &mut D, heap: ID3D12Heap)
     ensures { IsWithoutHeap D.D3D12Device device.old heap.0 device.new }
 {

@@ -20,7 +20,7 @@ use Rattle.gpu_core.proofs.Types.{slots_same, slots_here}
 use Rattle.gpu_pool.specs.Allocate.{NothingMet, NoHostMemory, type_asked}
 use Rattle.gpu_pool.specs.State as pools
 use Rattle.gpu_pool.specs.State.{kind_at}
-use Rattle.gpu_pool.proofs.Allocating.{kind_is}
+use Rattle.gpu_pool.proofs.TypeKinds.{kind_is}
 use Rattle.gpu_vulkan.specs.Allocate.{Attempts}
 use Rattle.gpu_vulkan.specs.Attempt.{request_in, unseen, AnyQuestion}
 use Rattle.gpu_vulkan.specs.Blocks.{Slots}

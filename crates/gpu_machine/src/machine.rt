@@ -10,7 +10,7 @@ ghost use Rattle.gpu_vulkan.specs.Live.{IsLiveIn};
 ghost use Rattle.gpu_core.specs.declared.piece.Piece.{Piece};
 ghost use Rattle.gpu_device.specs.declared.vulkan.types.DeviceMemory.{DeviceMemory};
 ghost use Rattle.gpu_core.specs.Apart.{IsInside, AreDistinct, SharesNoByte, KeepsPages};
-ghost use Rattle.gpu_core.specs.Blocks.{total_capacity, BlocksWellFormed};
+ghost use Rattle.gpu_core.specs.Blocks.{total_capacity, BlocksWellFormed, EachKeepsOneEmptyAtMost};
 ghost use Rattle.gpu_core.specs.Budgets.{budget_at, budgets};
 ghost use Rattle.gpu_core.specs.Types.{slots_of, kinds};
 ghost use Rattle.gpu_vulkan.specs.Types.{kinds_of_device};
@@ -123,6 +123,7 @@ impl Machine {
         ensures empty { IfOk result (λ m. All (λ slots. slots ≡ []) m.slots) }
         ensures types { IfOk result (λ m. length m.slots ≡ length memory_types.items) }
         ensures budgets { IfOk result (λ m. All (λ b. b ≡ None) m.budgets) }
+        ensures bounds { IfOk result (λ m. length m.budgets ≡ length memory_types.items) }
         ensures closed { IfOk result (λ m. m.awaited ≡ None) }
         ensures valid { OnOk result (told_fault
             (properties_told memory_types.items heaps.items granularity) ≡ None) }
@@ -332,7 +333,8 @@ impl Machine {
     }
 
     /// What holds of live pieces at any time, for callers' proofs: all blocks are sound, each piece lies inside its block, no two share
-    /// a byte, and those of different kinds share no page (`bufferImageGranularity`). It does nothing.
+    /// a byte, those of different kinds share no page (`bufferImageGranularity`), and at most one block of a memory type has none. It
+    /// does nothing.
     pub fn pieces_are_apart(&self)
         ensures types { length self.now.slots ≡ length self.now.setup.properties.types }
         ensures sound { BlocksWellFormed self.now.setup.properties.granularity self.now.slots }
@@ -344,6 +346,7 @@ impl Machine {
         ensures pages { (t : ℕ) (p q : Piece DeviceMemory) → IsLiveIn self.now.slots t (Some p)
             → IsLiveIn self.now.slots t (Some q)
             → KeepsPages self.now.setup.properties.granularity self.now.slots t p q }
+        ensures empty { EachKeepsOneEmptyAtMost self.now.slots }
     {
         let _ = &self.types;
     }

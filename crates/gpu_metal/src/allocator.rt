@@ -3,7 +3,7 @@
 ghost use Rattle.std.specs.Prelude.{◌≡◌, ◌↔◌, ◌%◌, ◌<◌, [], All, None, IfOk, IfErr, IsTrue, length, option_copied};
 ghost use Rattle.gpu_values.specs.Refusal.{refusal_of};
 ghost use Rattle.gpu_values.specs.declared.error.AllocationError.TheVariants.{HostOutOfMemory};
-ghost use Rattle.gpu_core.specs.Blocks.{total_capacity, BlocksWellFormed};
+ghost use Rattle.gpu_core.specs.Blocks.{total_capacity, BlocksWellFormed, EachKeepsOneEmptyAtMost};
 ghost use Rattle.gpu_core.specs.Budgets.{budget_at, budgets};
 ghost use Rattle.gpu_core.specs.Types.{slots_of, kinds};
 ghost use Rattle.gpu_metal.specs.MemoryKinds.{locations};
@@ -66,6 +66,7 @@ impl<D: MetalDevice> Allocator<D> {
         ensures empty { IfOk result (λ a. All (λ slots. slots ≡ []) a.slots) }
         ensures budgets { IfOk result (λ a. All (λ b. b ≡ None) a.budgets) }
         ensures types { IfOk result (λ a. length a.slots ≡ length locations) }
+        ensures bounds { IfOk result (λ a. length a.budgets ≡ length locations) }
         ensures refused { IfErr result (λ e. IsNotMade D.MetalDevice desc.create_residency_set
             (refusal_of e.0) desc.device e.1) }
         ensures held { IfErr result (λ e. D.held e.1 ≡ D.held desc.device) }
@@ -232,12 +233,13 @@ impl<D: MetalDevice> Allocator<D> {
     }
 
     /// What holds of live allocations at any time, for callers' proofs: each lies inside its block, and no two share a
-    /// byte. All blocks are sound. It does nothing.
+    /// byte. All blocks are sound, and at most one of a memory type has no allocation. It does nothing.
     pub fn allocations_are_apart(&self)
         ensures sound { BlocksWellFormed 1 self.now.slots }
         ensures inside { (a : Allocation) → IsLive self.now.slots a → IsInside self.now.slots a }
         ensures apart { (a b : Allocation) → IsLive self.now.slots a → IsLive self.now.slots b
             → AreDistinct a b → SharesNoByte a b }
+        ensures empty { EachKeepsOneEmptyAtMost self.now.slots }
     {
         self.pool.pieces_are_apart();
     }

@@ -1,6 +1,6 @@
 pub mod Listing
 pub mod Emptying
-pub mod Allocating
+pub mod TypeKinds
 pub mod Holding
 pub mod Serving
 pub mod Owning
@@ -12,3 +12,5 @@ pub mod Apart
 pub mod OneStep
 pub mod WithoutBudgets
 pub mod Giving
+pub mod Preparing
+pub mod Agreeing

@@ -15,7 +15,7 @@ use Rattle.gpu_pool.specs.Allocate.{RequestAt, Environment, NothingMet, NoHostMe
 use Rattle.gpu_pool.specs.Live.{IsLive, StayLive, IsNewlyLive}
 use Rattle.gpu_pool.specs.Source.{result_of}
 use Rattle.gpu_pool.specs.State.{State, kind_at, IsSoundAt}
-use Rattle.gpu_pool.proofs.Allocating.{kind_is}
+use Rattle.gpu_pool.proofs.TypeKinds.{kind_is}
 
 -- the blocks of each memory type are sound with its pages
 pub sound_at : {H : Type 0} (types : Types H) (ks : List (Bool × ℕ)) → kinds types ≡ ks → MemoryTypesInvariant types → (t : ℕ) → IsSoundAt ks (slots_of types) t

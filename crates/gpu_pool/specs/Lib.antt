@@ -8,5 +8,8 @@ pub mod Free
 pub mod Rename
 pub mod Allocation
 pub mod Told
+pub mod RequestState
+pub mod Begin
+pub mod Idle
 pub mod Reply
 pub mod Step

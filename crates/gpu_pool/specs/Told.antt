@@ -1,5 +1,5 @@
 -- What allocators say of their blocks, and of budgets.
-use Rattle.std.specs.Prelude.{◌≡◌, ℕ, ◌<◌, Vec, String, length, map, Option, Result, IfOk, IfErr, IsOk, string_bytes}
+use Rattle.std.specs.Prelude.{◌≡◌, ℕ, ◌<◌, ◌≤◌, Vec, String, length, map, Option, Result, IfOk, IfErr, IsOk, IsErr, string_bytes}
 use Rattle.std.specs.Global.{Global}
 use Rattle.gpu_values.specs.Refusal.{refusal_in}
 use Rattle.gpu_values.specs.Report.{report_of}
@@ -23,7 +23,8 @@ pub record TextsLeaks {H : Type 0} (slots : Slots H) (result : Result (Vec (Stri
   pub texts : IfOk result (λ v. map string_bytes v.items ≡ map leak_text (all_leaks slots))
   pub cause : IfErr result (λ e. e ≡ HostOutOfMemory)
 
--- the memory type at the index has this budget from now on, which is never refused where there is such a type
+-- the memory type at the index has this budget from now on, which is refused just where there is no such type
 pub record SetsBudgetAt {H : Type 0} (slots : Slots H) (index : ℕ) (budget : Option ℕ) (old : Budgets) (result : Result (Unit {0}) AllocationError) (new : Budgets) : Type 0 where
   pub sets : SetsBudget index budget old (refusal_in result) new
   pub found : index < length slots → IsOk result
+  pub missing : length slots ≤ index → IsErr result

@@ -9,9 +9,12 @@ pub mod laws;
 pub mod logging;
 mod named;
 mod pool;
+mod requests;
 mod source;
+mod turn;
 
 pub use allocation::Allocation;
 pub use handles::Handles;
 pub use pool::Pool;
+pub use requests::{Awaited, Begun, Question, Requests};
 pub use source::BlockSource;

@@ -1,6 +1,6 @@
 //! A pool: a source of blocks, and the pieces of its blocks.
 
-ghost use Rattle.std.specs.Prelude.{◌≡◌, ◌≢◌, ◌↔◌, ◌⊎◌, ◌<◌, ◌%◌, ℕ, [], All, None, length, map, string_bytes, IsTrue, IsOk, IfOk, IfErr};
+ghost use Rattle.std.specs.Prelude.{◌≡◌, ◌≢◌, ◌↔◌, ◌⊎◌, ◌<◌, ◌≤◌, ◌%◌, ℕ, [], All, None, length, map, string_bytes, IsTrue, IsOk, IsErr, IfOk, IfErr};
 ghost use Rattle.std.specs.Int.{is_power_of_two};
 ghost use Rattle.gpu_values.specs.Refusal.{refusal_in};
 ghost use Rattle.gpu_values.specs.Report.{report_of};
@@ -8,7 +8,7 @@ ghost use Rattle.gpu_values.specs.declared.error.AllocationError.TheVariants.{Ho
 ghost use Rattle.gpu_block_pieces.specs.Leak.{leak_text};
 ghost use Rattle.gpu_core.specs.declared.piece.Piece.{Piece};
 ghost use Rattle.gpu_core.specs.Apart.{IsInside, AreDistinct, KeepsPages};
-ghost use Rattle.gpu_core.specs.Blocks.{total_capacity};
+ghost use Rattle.gpu_core.specs.Blocks.{total_capacity, EachKeepsOneEmptyAtMost};
 ghost use Rattle.gpu_core.specs.Budgets.{budget_at, budgets, SetsBudget};
 ghost use Rattle.gpu_core.specs.Leaks.{all_leaks};
 ghost use Rattle.gpu_core.specs.Reports.{whole_report};
@@ -25,38 +25,33 @@ ghost use Rattle.gpu_pool.specs.State.{State, kind_at, IsSoundAt};
 use crate::BlockSource;
 use crate::free::{free_piece, give_back_all};
 use crate::handles::{Handles, all_handles};
-use gpu_core::{AllLeaks, MemoryTypes, Piece, Prepared, Request};
+use crate::requests::{Begun, Requests};
+use gpu_core::{AllLeaks, MemoryTypes, Piece, Request};
 use gpu_values::{AllocationSizes, AllocationType, AllocatorReport, Result};
 use std::alloc::Global;
 use std::marker::Model;
 
-/// A source of blocks, and the pieces of its blocks. The source holds just the live blocks. It must be spent by `destroy`.
+/// A source of blocks, and the requests that share its blocks out: what a request asks, the source answers at once. The source holds
+/// just the live blocks. It must be spent by `destroy`.
 pub struct Pool<S: BlockSource> {
     /// The source. Whoever changes it proves that it holds the same blocks, before the pool is used again.
     pub source: S,
-    sizes: AllocationSizes,
-    types: MemoryTypes<S::Handle>,
+    requests: Requests<S::Handle>,
 }
 
 impl<S: BlockSource> Model for Pool<S> {
-    ghost use Rattle.std.specs.Prelude.{◌≡◌};
-    ghost use Rattle.gpu_core.specs.Budgets.{budgets};
-    ghost use Rattle.gpu_core.specs.Types.{slots_of, kinds, MemoryTypesInvariant};
+    ghost use Rattle.std.specs.Prelude.{◌≡◌, None};
     ghost use Rattle.gpu_pool.specs.Held.{HoldsJustBlocks};
     ghost use Rattle.gpu_pool.specs.State.{State};
+    ghost use Rattle.gpu_pool.specs.RequestState.{pool_of};
 
     ghost Value = { State S S.Handle };
 
-    ghost view = { λ p. record {
-      source = p.source;
-      sizes = p.sizes;
-      slots = slots_of p.types;
-      budgets = budgets p.types;
-    } };
+    ghost view = { λ p. pool_of p.source p.requests };
 
-    ghost invariant = { λ p. (kinds p.types ≡ S.kinds p.source)
-        × HoldsJustBlocks S.number (S.held p.source) (slots_of p.types)
-        × MemoryTypesInvariant p.types };
+    ghost invariant = { λ p. (p.requests.awaited ≡ None)
+        × (p.requests.kinds ≡ S.kinds p.source)
+        × HoldsJustBlocks S.number (S.held p.source) p.requests.slots };
 }
 
 impl<S: BlockSource> Pool<S> {
@@ -72,11 +67,9 @@ impl<S: BlockSource> Pool<S> {
           budgets = budgets types;
         } }
     {
-        let _ = types.capacity();
         Pool {
             source,
-            sizes,
-            types,
+            requests: Requests::new(sizes, types),
         }
     }
 
@@ -101,14 +94,40 @@ impl<S: BlockSource> Pool<S> {
         ensures live { IfOk result (λ p. IsNewlyLive S.Handle.eq self.old.slots self.new.slots index
             p) }
     {
-        let need = match self.types.prepare(index, request, &self.sizes) {
-            Err(error) => return Err(error),
-            Ok(Prepared::Taken(piece)) => return Ok(piece),
-            Ok(Prepared::NeedBlock(need)) => need,
-        };
-        match self.source.ask(index, need.size, extra) {
+        self.requests.blocks_are_sound();
+        let result = self.serve(index, request, extra);
+        self.requests.blocks_are_sound();
+        result
+    }
+
+    // The same, without what it makes of live pieces.
+    fn serve(
+        &mut self,
+        index: usize,
+        request: &Request,
+        extra: S::Extra,
+    ) -> Result<Piece<S::Handle>>
+        requires there { index < length (S.kinds self.old.source) }
+        requires sized { 0 < request.now.size }
+        requires aligned { IsTrue (is_power_of_two request.now.alignment) }
+        requires piece { request.now.kind ≢ AllocationType.Free }
+        ensures allocates { Allocates (S.kinds self.old.source) S.asks
+            (request_at index request.now extra) self.old (result_of result) self.new }
+        ensures constant { S.kinds self.new.source ≡ S.kinds self.old.source }
+    {
+        self.requests.blocks_are_sound();
+        match self.requests.begin(index, request) {
             Err(error) => Err(error),
-            Ok(handle) => Ok(self.types.install(index, need, handle)),
+            Ok(Begun::Piece(piece)) => Ok(piece),
+            Ok(Begun::Question(question)) => {
+                match self.source.ask(question.memory_type, question.size, extra) {
+                    Ok(handle) => self.requests.granted(handle),
+                    Err(error) => {
+                        let _ = self.requests.declined();
+                        Err(error)
+                    }
+                }
+            }
         }
     }
 
@@ -121,7 +140,8 @@ impl<S: BlockSource> Pool<S> {
         ensures keeps { (t : ℕ) (p : Piece S.Handle) → IsLive S.Handle.eq self.old.slots t p
             → AreDistinct t p index piece.now → IsLive S.Handle.eq self.new.slots t p }
     {
-        free_piece(&mut self.source, &mut self.types, index, piece)
+        self.requests.blocks_are_sound();
+        free_piece(&mut self.source, &mut self.requests, index, piece)
     }
 
     /// Renames a piece of the memory type at `index`. `Internal` where the piece isn't live, else
@@ -131,7 +151,7 @@ impl<S: BlockSource> Pool<S> {
             self.new }
         ensures keeps { StayLive S.Handle.eq self.old.slots self.new.slots }
     {
-        self.types.rename(index, piece, name)
+        self.requests.rename(index, piece, name)
     }
 
     /// Bounds the sum of the sizes of the live blocks of a memory type, in bytes; `None` takes the bound away. A budget below
@@ -141,23 +161,24 @@ impl<S: BlockSource> Pool<S> {
         ensures budgets { SetsBudget index budget self.old.budgets (refusal_in result)
             self.new.budgets }
         ensures found { index < length self.old.slots → IsOk result }
+        ensures missing { length self.old.slots ≤ index → IsErr result }
         ensures others { self.new ≡ record self.old { budgets = self.new.budgets } }
     {
-        self.types.set_budget(index, budget)
+        self.requests.set_budget(index, budget)
     }
 
     /// The budget of a memory type, in bytes; `None` where it has none, or isn't there.
     pub fn budget(&self, index: usize) -> Option<u64>
         ensures { result ≡ budget_at self.now.budgets index }
     {
-        self.types.budget(index)
+        self.memory_types().budget(index)
     }
 
     /// The sum of the sizes of the live blocks, in bytes.
     pub fn capacity(&self) -> u64
         ensures { result ≡ total_capacity self.now.slots }
     {
-        self.types.capacity()
+        self.memory_types().capacity()
     }
 
     /// What is allocated: the live blocks and pieces by memory type, then by slot, pieces by offset, and the sums of both.
@@ -166,14 +187,14 @@ impl<S: BlockSource> Pool<S> {
         ensures report { IfOk result (λ r. report_of r ≡ whole_report self.now.slots) }
         ensures cause { IfErr result (λ e. e ≡ HostOutOfMemory) }
     {
-        self.types.report(alloc)
+        self.memory_types().report(alloc)
     }
 
     /// The live pieces by memory type, then by slot, then in order of offset. It takes no memory.
     pub fn leaks(&self) -> AllLeaks<'_, S::Handle>
         ensures { result ≡ all_leaks self.now.slots }
     {
-        self.types.leaks()
+        self.memory_types().leaks()
     }
 
     /// The texts of all live pieces in the same order. The only refusal is `HostOutOfMemory`.
@@ -182,21 +203,21 @@ impl<S: BlockSource> Pool<S> {
             ≡ map leak_text (all_leaks self.now.slots)) }
         ensures cause { IfErr result (λ e. e ≡ HostOutOfMemory) }
     {
-        self.types.leak_texts(alloc)
+        self.memory_types().leak_texts(alloc)
     }
 
     /// The handles of the live blocks by memory type, then by slot. It takes no memory.
     pub fn handles(&self) -> Handles<'_, S::Handle>
         ensures { result ≡ all_handles self.now.slots }
     {
-        all_handles(&self.types)
+        all_handles(self.memory_types())
     }
 
     /// Whether a piece of the memory type at `index` is live.
     pub fn is_live(&self, index: usize, piece: &Piece<S::Handle>) -> bool
         ensures { IsTrue result ↔ IsLive S.Handle.eq self.now.slots index piece.now }
     {
-        self.types.is_live(index, piece)
+        self.memory_types().is_live(index, piece)
     }
 
     /// The memory types, lent to be looked at: their blocks with pieces and gaps, and what is counted of them.
@@ -205,7 +226,7 @@ impl<S: BlockSource> Pool<S> {
         ensures budgets { budgets result.now ≡ self.now.budgets }
         ensures kinds { kinds result.now ≡ S.kinds self.now.source }
     {
-        &self.types
+        self.requests.memory_types()
     }
 
     /// The source, lent. It holds just the live blocks.
@@ -217,7 +238,8 @@ impl<S: BlockSource> Pool<S> {
     }
 
     /// What holds of live pieces at any time, for callers' proofs: blocks are sound, each piece lies inside its block, no two
-    /// share a byte, and those of different kinds share no page of their memory type. It does nothing.
+    /// share a byte, those of different kinds share no page of their memory type, and at most one block of a memory type has none. It
+    /// does nothing.
     pub fn pieces_are_apart(&self)
         ensures sound { (t : ℕ) → IsSoundAt (S.kinds self.now.source) self.now.slots t }
         ensures inside { (t : ℕ) (p : Piece S.Handle) → IsLive S.Handle.eq self.now.slots t p
@@ -228,8 +250,9 @@ impl<S: BlockSource> Pool<S> {
         ensures pages { (t : ℕ) (p q : Piece S.Handle) → IsLive S.Handle.eq self.now.slots t p
             → IsLive S.Handle.eq self.now.slots t q
             → KeepsPages (kind_at (S.kinds self.now.source) t).1 self.now.slots t p q }
+        ensures empty { EachKeepsOneEmptyAtMost self.now.slots }
     {
-        let _ = &self.types;
+        self.requests.blocks_are_sound();
     }
 
     /// Gives every block back, each once, by memory type, then by slot, and returns the source, which then holds none. It is
@@ -241,10 +264,9 @@ impl<S: BlockSource> Pool<S> {
     {
         let Pool {
             mut source,
-            sizes: _,
-            types,
+            requests,
         } = self;
-        give_back_all(&mut source, &types);
+        give_back_all(&mut source, requests.memory_types());
         source
     }
 }

@@ -4,7 +4,7 @@ ghost use Rattle.std.specs.Prelude.{◌≡◌, ◌↔◌, [], All, map, Some, No
 ghost use Rattle.std.specs.Option.{unwrap_or};
 ghost use Rattle.gpu_values.specs.Refusal.{refusal_of, host_out_of_memory};
 ghost use Rattle.gpu_vulkan.specs.Setup.{setup_fault};
-ghost use Rattle.gpu_core.specs.Blocks.{total_capacity, BlocksWellFormed};
+ghost use Rattle.gpu_core.specs.Blocks.{total_capacity, BlocksWellFormed, EachKeepsOneEmptyAtMost};
 ghost use Rattle.gpu_pool.specs.Told.{Reports, SetsBudgetAt, TextsLeaks};
 ghost use Rattle.gpu_pool.specs.Handles.{all_handles};
 ghost use Rattle.gpu_vulkan.specs.BlockAnswer.{frees_recorded};
@@ -79,6 +79,8 @@ impl<D: VulkanDevice> Allocator<D> {
         ensures types { IfOk result (λ a. length a.slots
             ≡ length (D.properties desc.device).types) }
         ensures budgets { IfOk result (λ a. All (λ b. b ≡ None) a.budgets) }
+        ensures bounds { IfOk result (λ a. length a.budgets
+            ≡ length (D.properties desc.device).types) }
         ensures valid { OnOk result (setup_fault desc.physical_device.0 (D.properties desc.device)
             ≡ None) }
         ensures refused { IfErr result (λ e. e.1 ≡ desc.device) }
@@ -222,7 +224,8 @@ impl<D: VulkanDevice> Allocator<D> {
     }
 
     /// What holds of live allocations at any time, for callers' proofs: each lies inside its block, no two share a byte, and
-    /// those of different kinds share no page (`bufferImageGranularity`). All blocks are sound. It does nothing.
+    /// those of different kinds share no page (`bufferImageGranularity`). All blocks are sound, and at most one of a memory type has no
+    /// allocation. It does nothing.
     pub fn allocations_are_apart(&self)
         ensures sound { BlocksWellFormed self.now.setup.properties.granularity self.now.slots }
         ensures inside { (a : Allocation) → IsLive self.now.slots a → IsInside self.now.slots a }
@@ -230,6 +233,7 @@ impl<D: VulkanDevice> Allocator<D> {
             → AreDistinct a b → SharesNoByte a b }
         ensures pages { (a b : Allocation) → IsLive self.now.slots a → IsLive self.now.slots b
             → KeepsPages self.now.setup.properties.granularity self.now.slots a b }
+        ensures empty { EachKeepsOneEmptyAtMost self.now.slots }
     {
         blocks_are_held(&self.pool);
         self.pool.pieces_are_apart();
@@ -385,7 +389,7 @@ impl<D: VulkanDevice> Allocator<D> {
         }
     }
 
-    /// IsResultOf an allocation another name, and with it the record that reports and leaks show. A null allocation has no record.
+    /// Gives an allocation another name, and with it the record that reports and leaks show. A null allocation has no record.
     /// `Internal` where the allocation is neither null nor live, else `HostOutOfMemory` where the host refused memory; then
     /// both names are as they were.
     pub fn rename_allocation(&mut self, allocation: &mut Allocation, name: &str) -> Result<()>

@@ -43,7 +43,7 @@ fn name_for<D: VulkanDevice>(
     Ok(Some(own_name(alloc, name)?))
 }
 
-/// IsResultOf a live piece of the memory type at `index` another name, which is answered in memory of its own. A refusal
+/// Gives a live piece of the memory type at `index` another name, which is answered in memory of its own. A refusal
 /// changes nothing.
 fn rename_piece<D: VulkanDevice>(
     alloc: Global,
@@ -68,7 +68,7 @@ fn rename_piece<D: VulkanDevice>(
     }
 }
 
-/// IsResultOf an allocation another name, and the record of its piece with it; a null allocation has none. `Internal` where it
+/// Gives an allocation another name, and the record of its piece with it; a null allocation has none. `Internal` where it
 /// is neither null nor live, else `HostOutOfMemory` where the host refused memory; a refusal changes nothing.
 pub fn rename<D: VulkanDevice>(
     alloc: Global,

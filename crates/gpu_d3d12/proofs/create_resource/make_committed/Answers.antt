@@ -1,6 +1,4 @@
 use Rattle.std.proofs.Common.{◌≡◌, ◌∙◌, refl, sym, ap, subst, None}
-use Rattle.gpu_core.specs.Budgets.{budgets}
-use Rattle.gpu_core.specs.Types.{slots_of}
 use Rattle.gpu_device.specs.declared.d3d12.types.HeapFlags.{HeapFlags}
 use Rattle.gpu_device.specs.declared.d3d12.types.HeapProperties.{HeapProperties}
 use Rattle.gpu_device.specs.declared.d3d12.types.ResourceHeapTier.{ResourceHeapTier}
@@ -9,6 +7,7 @@ use Rattle.gpu_d3d12.specs.MemoryKinds.{memory_kinds, IsFirstServing}
 use Rattle.gpu_d3d12.specs.Question.{told_info}
 use Rattle.gpu_d3d12.specs.Setup.{kinds_of_device}
 use Rattle.gpu_d3d12.specs.declared.device_version.ID3D12DeviceVersion.{ID3D12DeviceVersion}
+use Rattle.gpu_pool.specs.RequestState.{pool_of}
 use Rattle.gpu_pool.proofs.Holding.{same_holds}
 use Rattle.gpu_d3d12.specs.Committed.{resource_reply}
 use Rattle.gpu_d3d12.specs.Over.{IsCommittedOver}
@@ -25,10 +24,10 @@ pub invariant_of-pool : goal.invariant_of-pool
 invariant_of-pool g c =
     let V = g.D.D3D12Device in
     let i = c.pool.inside in
-    let slots = slots_of i.types in (
-      c.pool.invariant.0 ∙ ap kinds_of_device (sym c.create.ensures.tier),
-      same_holds (λ heap. heap.0) (source_blocks V i.source) (source_blocks V c.create.new.source) slots slots refl c.create.ensures.blocks c.pool.invariant.1,
-      c.pool.invariant.2,
+    let slots = i.requests.slots in (
+      c.pool.invariant.0,
+      c.pool.invariant.1 ∙ ap kinds_of_device (sym c.create.ensures.tier),
+      same_holds (λ heap. heap.0) (source_blocks V i.source) (source_blocks V c.create.new.source) slots slots refl c.create.ensures.blocks c.pool.invariant.2,
     )
 
 pub returns-clause-made : goal.returns-clause-made
@@ -40,7 +39,7 @@ returns-clause-made g c =
     let index = c.type_for-index.result in
     let size = c.allocation_info_of-size.result.size_in_bytes in
     let result = c.match-create.result in
-    let was : Pool g.row.D.Denot = record { source = i.source; sizes = i.sizes; slots = slots_of i.types; budgets = budgets i.types } in
+    let was : Pool g.row.D.Denot = pool_of i.source i.requests in
     let old : Contents (SourceState g.row.D.Denot) = record { pool = was; committed = c.args.committed.now } in
     let new : Contents (SourceState g.row.D.Denot) = record { pool = record was { source = c.create.new.source }; committed = c.create.new.self } in
     let sized : size ≡ (info_of (source_basis V i.source) d).size_in_bytes =

@@ -1,8 +1,6 @@
 use Rattle.std.proofs.Common.{◌≡◌, ◌∙◌, ℕ, refl, sym, ap, subst, Ok, Err, Result}
 use Rattle.gpu_values.specs.declared.error.AllocationError.{AllocationError}
 use Rattle.gpu_device.specs.declared.d3d12.types.ID3D12Heap.{ID3D12Heap}
-use Rattle.gpu_core.specs.Budgets.{budgets}
-use Rattle.gpu_core.specs.Types.{slots_of}
 use Rattle.gpu_device.specs.D3D12.{Placed}
 use Rattle.gpu_device.specs.declared.d3d12.event.ResourcePlace.TheVariants.{InHeap}
 use Rattle.gpu_d3d12.specs.DeviceVersion.{device_of}
@@ -11,10 +9,10 @@ use Rattle.gpu_d3d12.specs.Question.{told_info, made_size}
 use Rattle.gpu_d3d12.specs.Setup.{kinds_of_device}
 use Rattle.gpu_d3d12.specs.declared.describe.AllocationCreateDesc.{AllocationCreateDesc}
 use Rattle.gpu_d3d12.specs.declared.device_version.ID3D12DeviceVersion.{ID3D12DeviceVersion}
+use Rattle.gpu_pool.specs.RequestState.{pool_of}
 use Rattle.gpu_pool.specs.Source.{result_of}
 use Rattle.gpu_pool.specs.State.{IsSoundAt}
 use Rattle.gpu_pool.proofs.Holding.{same_holds}
-use Rattle.gpu_pool.proofs.Owning.{sound_at}
 use Rattle.gpu_d3d12.specs.Allocate.{is_valid, AllocatesBy}
 use Rattle.gpu_d3d12.specs.Live.{Allocation, IsLive}
 use Rattle.gpu_d3d12.specs.Resource.{piece_desc, IsPlacedIn}
@@ -55,31 +53,31 @@ pub invariant_of-pool : goal.invariant_of-pool
 invariant_of-pool g c =
     let V = g.D.D3D12Device in
     let i = c.pool.inside in
-    let slots = slots_of i.types in (
-      c.pool.invariant.0 ∙ ap kinds_of_device (sym c.create_placed.ensures.tier),
-      same_holds (λ heap. heap.0) (source_blocks V i.source) (source_blocks V c.create_placed.new.self) slots slots refl c.create_placed.ensures.blocks c.pool.invariant.1,
-      c.pool.invariant.2,
+    let slots = i.requests.slots in (
+      c.pool.invariant.0,
+      c.pool.invariant.1 ∙ ap kinds_of_device (sym c.create_placed.ensures.tier),
+      same_holds (λ heap. heap.0) (source_blocks V i.source) (source_blocks V c.create_placed.new.self) slots slots refl c.create_placed.ensures.blocks c.pool.invariant.2,
     )
 
 pub invariant_of-pool-in-Err-create_placed : goal.invariant_of-pool-in-Err-create_placed
 invariant_of-pool-in-Err-create_placed g c =
     let V = g.D.D3D12Device in
     let i = c.pool.inside in
-    let slots = slots_of i.types in (
-      c.pool.invariant.0 ∙ ap kinds_of_device (sym c.create_placed.ensures.tier),
-      same_holds (λ heap. heap.0) (source_blocks V i.source) (source_blocks V c.create_placed.new.self) slots slots refl c.create_placed.ensures.blocks c.pool.invariant.1,
-      c.pool.invariant.2,
+    let slots = i.requests.slots in (
+      c.pool.invariant.0,
+      c.pool.invariant.1 ∙ ap kinds_of_device (sym c.create_placed.ensures.tier),
+      same_holds (λ heap. heap.0) (source_blocks V i.source) (source_blocks V c.create_placed.new.self) slots slots refl c.create_placed.ensures.blocks c.pool.invariant.2,
     )
 
 -- the pool with the piece
 abbrev mid : (g : _) (c : After-create_placed g) → Pool g.row.D.Denot
-mid g c = let i = c.pool.inside in record { source = i.source; sizes = i.sizes; slots = slots_of i.types; budgets = budgets i.types }
+mid g c = pool_of c.pool.inside.source c.pool.inside.requests
 
 sound : (g : _) (c : After-create_placed g) → (t : ℕ) → IsSoundAt (kinds_of_device c.args.pool.now.source.tier) (mid g c).slots t
-sound g c =
-    let i = c.pool.inside in
-    sound_at i.types (kinds_of_device c.args.pool.now.source.tier)
-    (c.pool.invariant.0 ∙ ap (λ (s : Pool g.row.D.Denot). kinds_of_device s.source.tier) c.pool.view_is ∙ c.allocate_piece.ensures.kinds) c.pool.invariant.2
+sound g c = λ t.
+    let kinds = kinds_of_device c.args.pool.now.source.tier in
+    subst (λ (s : Pool g.row.D.Denot). IsSoundAt kinds s.slots t) (sym c.pool.view_is)
+    (subst (λ ks. IsSoundAt ks c.allocate_piece.new.pool.slots t) c.allocate_piece.ensures.kinds (c.pieces_are_apart.ensures.sound t))
 
 allocates : (g : _) (c : After-create_placed g) (first : After-allocate_piece g) → c.piece_desc-asked.result ≡ asked g first → AllocatesBy g.D.D3D12Device (asked g first) (is_valid (asked g first)) c.args.pool.now (Ok c.in-Ok.allocation) (mid g c)
 allocates g c first is =

@@ -1,6 +1,5 @@
 use Rattle.std.proofs.Common.{rules, sym, subst}
-use Rattle.gpu_core.specs.Budgets.{budgets}
-use Rattle.gpu_core.specs.Types.{slots_of}
+use Rattle.gpu_pool.specs.RequestState.{pool_of}
 use Rattle.gpu_pool.specs.Source.{result_of}
 use Rattle.gpu_d3d12.specs.Live.{IsLive}
 use Rattle.gpu_d3d12.specs.Over.{FreesPlacedOver}
@@ -10,7 +9,7 @@ use Rattle.gpu_d3d12.proofs.free_resource.free_placed.Goals as goal
 use Rattle.gpu_d3d12.proofs.free_resource.free_placed.Goals.{After-free_named-2}
 
 abbrev was : (g : _) (c : After-free_named-2 g) → Pool g.row.D.Denot
-was g c = let i = c.pool.inside in record { source = i.source; sizes = i.sizes; slots = slots_of i.types; budgets = budgets i.types }
+was g c = pool_of c.pool.inside.source c.pool.inside.requests
 
 pub returns-clause-frees : goal.returns-clause-frees
 returns-clause-frees g c =

@@ -26,7 +26,7 @@ kept_after g c at =
     let there : c.args.index < length c.self.inside.types.items = subst (λ (ts : Types _). c.args.index < length ts) (sym c.self.view_is) c.requires.there in
     let sum : total_capacity (slots_of c.self.inside.types.items) + c.args.need.size < 2 ^ 64 = subst (λ (ts : Types _). total_capacity (slots_of ts) + c.args.need.size < 2 ^ 64) (sym c.self.view_is)
     c.requires.sum in
-    invariant_set c.self.inside.types.items c.args.index c.index_mut.result.now c.install.new.self at (omega (arith, there)) c.self.invariant c.install.ensures.sound
+    invariant_set c.self.inside.types.items c.args.index c.index_mut.result.now c.install.new.self at (omega (arith, there)) c.self.invariant c.install.ensures.sound c.install.ensures.empty
     (omega (arith, sum, c.install.ensures.capacity))
 
 pub invariant_of-self : goal.invariant_of-self

@@ -21,7 +21,7 @@ kept_after g c =
     let there : c.args.index < length c.self.inside.types.items = subst (λ (ts : Types _). c.args.index < length ts) (sym c.self.view_is) c.requires.there in
     let sum = c.self.invariant.sum in
     let share = share_below c.self.inside.types.items c.args.index c.index_mut-memory_type.result.now at in
-    invariant_set c.self.inside.types.items c.args.index c.index_mut-memory_type.result.now c.prepare.new.self at (omega (arith, there)) c.self.invariant c.prepare.ensures.sound
+    invariant_set c.self.inside.types.items c.args.index c.index_mut-memory_type.result.now c.prepare.new.self at (omega (arith, there)) c.self.invariant c.prepare.ensures.sound c.prepare.ensures.empty
     (omega (arith, sum, share, c.prepare.ensures.capacity))
 
 pub invariant_of-self : goal.invariant_of-self

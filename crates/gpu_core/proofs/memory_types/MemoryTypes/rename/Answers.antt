@@ -14,7 +14,7 @@ kept_after g c =
     let at = old_at g c in
     let sum = c.self.invariant.sum in
     let share = share_below c.self.inside.types.items c.args.index c.index_mut.result.now at in
-    invariant_set c.self.inside.types.items c.args.index c.index_mut.result.now c.rename.new.self at (omega (arith, c.if-index-len.false, c.len.ensures)) c.self.invariant c.rename.ensures.sound
+    invariant_set c.self.inside.types.items c.args.index c.index_mut.result.now c.rename.new.self at (omega (arith, c.if-index-len.false, c.len.ensures)) c.self.invariant c.rename.ensures.sound c.rename.ensures.empty
     (omega (arith, sum, share, c.rename.ensures.capacity))
 
 pub invariant_of-self : goal.invariant_of-self

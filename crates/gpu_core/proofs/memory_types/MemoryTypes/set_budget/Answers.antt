@@ -5,7 +5,7 @@ use Rattle.gpu_core.specs.TypeState.{TypeState, capacity_of}
 use Rattle.gpu_core.specs.Budgets.{budgets}
 use Rattle.gpu_core.specs.Types.{slots_of, kinds, MemoryTypesInvariant}
 use Rattle.gpu_core.proofs.Changed.{element_at, same_slots}
-use Rattle.gpu_core.proofs.Types.{invariant_set, kinds_set, each_at, WellFormed}
+use Rattle.gpu_core.proofs.Types.{invariant_set, kinds_set, each_at, WellFormed, OneEmpty}
 use Rattle.gpu_core.proofs.memory_types.MemoryTypes.set_budget.Goals.{After-set_budget}
 use Rattle.gpu_core.proofs.memory_types.MemoryTypes.set_budget.Goals as goal
 
@@ -26,7 +26,8 @@ kept_after g c =
     let sum = c.self.invariant.sum in
     let same = ap (λ (t : TypeState _). capacity_of t.slots) c.set_budget.ensures in
     invariant_set types c.args.index c.index_mut.result.now c.set_budget.new.self at (below g c) c.self.invariant
-    (subst WellFormed (sym c.set_budget.ensures) was) (omega (arith, sum, same))
+    (subst WellFormed (sym c.set_budget.ensures) was) (subst OneEmpty (sym c.set_budget.ensures) (each_at OneEmpty types c.args.index c.index_mut.result.now c.self.invariant.empty at))
+    (omega (arith, sum, same))
 
 pub invariant_of-self : goal.invariant_of-self
 invariant_of-self g c = kept_after g ((goal.at.invariant_of-self g c).After-set_budget)

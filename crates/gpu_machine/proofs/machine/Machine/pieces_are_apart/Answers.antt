@@ -1,5 +1,5 @@
 use Rattle.std.proofs.Common.{◌≡◌, subst, length}
-use Rattle.gpu_core.specs.Blocks.{BlocksWellFormed}
+use Rattle.gpu_core.specs.Blocks.{BlocksWellFormed, EachKeepsOneEmptyAtMost}
 use Rattle.gpu_core.proofs.Apart.{piece_inside, pieces_apart, pieces_pages}
 use Rattle.gpu_pool.proofs.Owning.{sound_at}
 use Rattle.gpu_vulkan.specs.Live.{is_same_memory}
@@ -8,6 +8,7 @@ use Rattle.gpu_vulkan.proofs.Leaving.{as_many, well_formed}
 use Rattle.gpu_machine.specs.State.{State}
 use Rattle.gpu_machine.proofs.machine.Machine.pieces_are_apart.Goals as goal
 use Rattle.gpu_machine.proofs.machine.Machine.pieces_are_apart.Goals.{After-self}
+use Rattle.gpu_core.proofs.Types.{type_empty}
 
 sound : (c : After-self) → BlocksWellFormed c.args.self.now.setup.properties.granularity c.args.self.now.slots
 sound c =
@@ -38,3 +39,6 @@ pub returns-clause-pages : goal.returns-clause-pages
 returns-clause-pages c =
     let s = c.args.self.now in
     λ t p q live_p live_q. pieces_pages is_same_memory s.setup.properties.granularity s.slots t (sound (goal.at.returns-clause-pages c).After-self t) p q live_p live_q
+
+pub returns-clause-empty : goal.returns-clause-empty
+returns-clause-empty c = subst (λ (s : State). EachKeepsOneEmptyAtMost s.slots) c.self.view_is (type_empty c.self.inside.types c.self.invariant.1)
