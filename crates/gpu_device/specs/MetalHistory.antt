@@ -1,16 +1,17 @@
 -- What follows from all that a Metal device was asked and was given back, newest first.
-use Rattle.std.specs.Prelude.{ℕ, ◌==◌, if◌then◌else◌, List, [], ◌∷◌, map, Option, Some, None}
+use Rattle.std.specs.Prelude.{ℕ, ◌==◌, if◌then◌else◌, Bool, true, false, List, [], ◌∷◌, map, Option, Some, None}
 use Rattle.gpu_device.specs.Granted.{counted}
 use Rattle.gpu_device.specs.Held.{raised}
 use Rattle.gpu_device.specs.Metal.{granted_heap, granted_set}
 use Rattle.gpu_device.specs.declared.refusal.Refusal.{Refusal}
 use Rattle.gpu_device.specs.declared.metal.types.HeapDescriptor.{HeapDescriptor}
 use Rattle.gpu_device.specs.declared.metal.event.Event.{Event}
-use Rattle.gpu_device.specs.declared.metal.event.Event.TheVariants.{Scripted, AskedHeap, AskedSet, ReleasedHeap, Added, Removed, Committed}
+use Rattle.gpu_device.specs.declared.metal.event.Event.TheVariants.{Scripted, WithoutSets, AskedHeap, AskedSet, ReleasedHeap, Added, Removed, Committed}
 
 -- the count of refusals after one more event
 abbrev pub refused_after : Event → ℕ → ℕ
 refused_after (Scripted question refusal) count = count
+refused_after WithoutSets count = count
 refused_after (AskedHeap desc size answer) count = counted count (granted_heap answer)
 refused_after (AskedSet answer) count = counted count (granted_set answer)
 refused_after (ReleasedHeap heap) count = count
@@ -26,6 +27,7 @@ refused_in (event ∷ before) = refused_after event (refused_in before)
 -- the latest question for a heap after one more event
 abbrev pub latest_heap_after : Event → Option (HeapDescriptor × ℕ) → Option (HeapDescriptor × ℕ)
 latest_heap_after (Scripted question refusal) latest = latest
+latest_heap_after WithoutSets latest = latest
 latest_heap_after (AskedHeap desc size answer) latest = Some (desc, size)
 latest_heap_after (AskedSet answer) latest = latest
 latest_heap_after (ReleasedHeap heap) latest = latest
@@ -47,6 +49,7 @@ scripted entries = map (λ e. Scripted e.0 e.1) entries
 -- the refusal that the script has for a question after one more event: of two at one number the first counts
 abbrev pub scripted_after : Event → ℕ → Option Refusal → Option Refusal
 scripted_after (Scripted number refusal) question before = if number == question then Some refusal else before
+scripted_after WithoutSets question before = before
 scripted_after (AskedHeap desc size answer) question before = before
 scripted_after (AskedSet answer) question before = before
 scripted_after (ReleasedHeap heap) question before = before
@@ -62,6 +65,7 @@ scripted_in (event ∷ before) question = scripted_after event question (scripte
 -- the count of questions after one more event
 abbrev pub questions_after : Event → ℕ → ℕ
 questions_after (Scripted number refusal) count = count
+questions_after WithoutSets count = count
 questions_after (AskedHeap desc size answer) count = raised count
 questions_after (AskedSet answer) count = raised count
 questions_after (ReleasedHeap heap) count = count
@@ -77,3 +81,21 @@ questions_in (event ∷ before) = questions_after event (questions_in before)
 -- the refusal that the script has for the next question
 abbrev pub next_scripted : List Event → Option Refusal
 next_scripted events = scripted_in events (raised (questions_in events))
+
+-- ---- residency sets
+
+-- whether the device makes residency sets, after one more event
+abbrev pub sets_after : Event → Bool → Bool
+sets_after (Scripted number refusal) before = before
+sets_after WithoutSets before = false
+sets_after (AskedHeap desc size answer) before = before
+sets_after (AskedSet answer) before = before
+sets_after (ReleasedHeap heap) before = before
+sets_after (Added set heap) before = before
+sets_after (Removed set heap) before = before
+sets_after (Committed set) before = before
+
+-- whether the device makes residency sets: it does, where no event says otherwise
+abbrev pub sets_in : List Event → Bool
+sets_in [] = true
+sets_in (event ∷ before) = sets_after event (sets_in before)

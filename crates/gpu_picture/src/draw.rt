@@ -21,7 +21,7 @@ pub enum Form {
     Json,
 }
 
-/// Writes views of blocks in a form.
+/// Writes views of blocks in a form, and flushes.
 fn write_views<W: Write>(form: Form, views: &[BlockView<'_>], writer: &mut W) -> io::Result<()>
     ensures { OnOk result (Appends (W.contents writer.old) (W.contents writer.new)
         (drawing form views.now)) }
@@ -29,13 +29,14 @@ fn write_views<W: Write>(form: Form, views: &[BlockView<'_>], writer: &mut W) ->
     match form {
         Form::Svg => {
             let picture = BlocksSvg(views);
-            write!(writer, "{picture}")
+            write!(writer, "{picture}")?;
         }
         Form::Json => {
             let json = BlocksJson(views);
-            writeln!(writer, "{json}")
+            writeln!(writer, "{json}")?;
         }
     }
+    writer.flush()
 }
 
 /// Writes the block of a block trace, or none where it made none.

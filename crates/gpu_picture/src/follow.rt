@@ -240,11 +240,12 @@ pub fn follow_trace<R: Read, L: Log>(
     replay_from(log, alloc, start(alloc), reader)
 }
 
-/// Writes what memory types held after one command after another, as a picture.
+/// Writes what memory types held after one command after another, as a picture, and flushes.
 pub fn draw_over_time<W: Write>(followed: &Followed, writer: &mut W) -> io::Result<()>
     ensures { OnOk result (Appends (W.contents writer.old) (W.contents writer.new)
         (timeline_svg followed.now.samples.items)) }
 {
     let picture = TimelineSvg(&followed.samples);
-    write!(writer, "{picture}")
+    write!(writer, "{picture}")?;
+    writer.flush()
 }

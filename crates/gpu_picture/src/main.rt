@@ -4,23 +4,14 @@
 
 mod draw;
 mod follow;
+mod whole_trace;
 
-use draw::{Form, draw};
-use follow::{Followed, draw_over_time, follow_trace};
-use gpu_trace_text::{AnyTrace, Replayed, Trace, TraceError, replay_trace};
+use draw::Form;
 use log::sink::Discard;
-use std::io::{BufWriter, Write};
+use std::io::BufWriter;
 use std::process::ExitCode;
 use std::{env, io};
-
-/// What is to be written.
-#[derive(Clone, Copy)]
-enum Wanted {
-    /// The blocks that the trace leaves.
-    Blocks(Form),
-    /// What memory types held after one command after another.
-    OverTime,
-}
+use whole_trace::{DrawError, Drawn, Wanted, draw_trace};
 
 /// What is asked for: a picture of the blocks, JSON of them by the one argument `json`, a picture of what was held over time by
 /// `over-time`; `None` of other arguments.
@@ -39,72 +30,37 @@ fn asked_for(rt: &HostRuntime) -> io::Result<Option<Wanted>> {
     Ok(wanted)
 }
 
-/// Writes what a trace leaves to standard output, through a buffer.
-fn write_blocks(rt: &HostRuntime, form: Form, trace: &AnyTrace) -> io::Result<()> {
-    let mut writer = BufWriter::new(rt.alloc(), rt.stdout())?;
-    draw(rt.alloc(), form, trace, &mut writer)?;
-    writer.flush()
+/// Draws standard input to standard output, through a buffer.
+fn draw_input(rt: &HostRuntime, wanted: Wanted) -> Result<Drawn, DrawError> {
+    let mut reader = rt.stdin();
+    match BufWriter::new(rt.alloc(), rt.stdout()) {
+        Ok(mut writer) => draw_trace(&Discard, rt.alloc(), wanted, &mut reader, &mut writer),
+        Err(error) => Err(DrawError::Write(error)),
+    }
 }
 
-/// Writes what was held over time to standard output, through a buffer.
-fn write_over_time(rt: &HostRuntime, followed: &Followed) -> io::Result<()> {
-    let mut writer = BufWriter::new(rt.alloc(), rt.stdout())?;
-    draw_over_time(followed, &mut writer)?;
-    writer.flush()
-}
-
-/// The trace behind its last line; of another the status, once it is told what is wrong.
-fn whole<T>(rt: &HostRuntime, replayed: Result<Replayed<T>, TraceError>) -> Result<T, ExitCode> {
-    match replayed {
-        Ok(Replayed::Whole(trace)) => Ok(trace),
-        Ok(Replayed::Bad(number)) => {
+/// The exit status, once it is told what is wrong.
+fn status(rt: &HostRuntime, drawn: Result<Drawn, DrawError>) -> ExitCode {
+    match drawn {
+        Ok(Drawn::Whole) => ExitCode::SUCCESS,
+        Ok(Drawn::Bad(number)) => {
             let _ = eprintln!(rt; "gpu_picture: bad line {number}");
-            Err(ExitCode::from(2))
+            ExitCode::from(2)
         }
-        Err(error) => {
+        Err(DrawError::Trace(error)) => {
             let _ = eprintln!(rt; "gpu_picture: {error}");
-            Err(ExitCode::from(1))
+            ExitCode::from(1)
         }
-    }
-}
-
-fn status(written: io::Result<()>) -> ExitCode {
-    match written {
-        Ok(()) => ExitCode::SUCCESS,
-        Err(_) => ExitCode::from(1),
-    }
-}
-
-/// Reads a trace and writes the blocks that it leaves.
-fn blocks(rt: &HostRuntime, form: Form) -> ExitCode {
-    let mut reader = rt.stdin();
-    match whole(rt, replay_trace(&Discard, rt.alloc(), &mut reader)) {
-        Ok(trace) => {
-            let written = write_blocks(rt, form, &trace);
-            trace.end(&Discard);
-            status(written)
-        }
-        Err(status) => status,
-    }
-}
-
-/// Reads a trace and writes what was held over time.
-fn over_time(rt: &HostRuntime) -> ExitCode {
-    let mut reader = rt.stdin();
-    match whole(rt, follow_trace(&Discard, rt.alloc(), &mut reader)) {
-        Ok(followed) => {
-            let written = write_over_time(rt, &followed);
-            followed.end(&Discard);
-            status(written)
-        }
-        Err(status) => status,
+        Err(DrawError::Write(_)) => ExitCode::from(1),
     }
 }
 
 fn main(rt: HostRuntime) -> ExitCode {
     match asked_for(&rt) {
-        Ok(Some(Wanted::Blocks(form))) => blocks(&rt, form),
-        Ok(Some(Wanted::OverTime)) => over_time(&rt),
+        Ok(Some(wanted)) => {
+            let drawn = draw_input(&rt, wanted);
+            status(&rt, drawn)
+        }
         Ok(None) | Err(_) => {
             let _ = eprintln!(rt;
                 "gpu_picture: takes no argument but json or over-time, and a trace from standard input"

@@ -49,8 +49,8 @@ pieces_note pieces bytes = (codes ", " ++ (decimal pieces ++ codes " pieces, "))
 unfoldable pub gaps_note : BlockStatistics → List ℕ
 gaps_note s = codes ", " ++ (decimal s.gaps ++ (codes " gaps, longest " ++ amount_text s.longest_gap))
 
-unfoldable pub label_svg : ℕ → BlockView → List ℕ
-label_svg width v = block_note v ++ (pieces_note (counted v).pieces (counted v).piece_bytes ++ (gaps_note (counted v) ++ (page_note v.page_size ++ (scale_note width ++ codes "</text>\n"))))
+unfoldable pub label_svg : (largest : ℕ) → BlockView → List ℕ
+label_svg largest v = block_note v ++ (pieces_note (counted v).pieces (counted v).piece_bytes ++ (gaps_note (counted v) ++ (page_note v.page_size ++ (scale_note largest (bytes_of v) ++ codes "</text>\n"))))
 
 -- the cells of a block, each once
 abbrev pub cells_svg : ℕ → BlockView → List ℕ
@@ -60,7 +60,7 @@ cells_svg width v = flat_map (cell_svg (bytes_of v) width) (cells_between 0 (ext
 unfoldable pub bar_svg : (largest i : ℕ) → BlockView → List ℕ
 bar_svg largest i v =
     let width = bar_width largest (bytes_of v) in
-    bar_start_svg i ++ (label_svg width v ++ (cells_svg width v ++ (page_ends_svg (bytes_of v) width v.page_size (shown_pages (bytes_of v) v.page_size) ++ codes "</g>\n")))
+    bar_start_svg i ++ (label_svg largest v ++ (cells_svg width v ++ (page_ends_svg (bytes_of v) width v.page_size (shown_pages (bytes_of v) v.page_size) ++ codes "</g>\n")))
 
 -- the bars, of which the first has that index
 abbrev pub bars_svg : (largest i : ℕ) → List BlockView → List ℕ

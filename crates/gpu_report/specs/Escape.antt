@@ -1,7 +1,8 @@
 -- How a text's bytes are written inside a string of JSON, and as XML.
-use Rattle.std.specs.Prelude.{ℕ, ◌/◌, ◌%◌, ◌==◌, ◌||◌, List, [], ◌∷◌, ◌++◌, nat_lt, if◌then◌else◌, true, false, codes}
+use Rattle.std.specs.Prelude.{ℕ, ◌/◌, ◌%◌, ◌==◌, ◌||◌, List, [], ◌∷◌, ◌++◌, nat_lt, if◌then◌else◌, true, false, codes, encode_utf8}
 use Rattle.std.specs.List.{flat_map}
 use Rattle.std.specs.Fmt.{digits}
+use Rattle.std.specs.Str.{chars}
 use Rattle.gpu_report.specs.declared.escape.Escaping.{Escaping}
 use Rattle.gpu_report.specs.declared.escape.Escaping.TheVariants.{Json, Xml}
 
@@ -22,23 +23,25 @@ json_byte b =
     if nat_lt b 32 then codes "\\u00" ++ (digits 16 false (b / 16) ++ digits 16 false (b % 16)) else
     b ∷ []
 
--- what stands for a byte in XML: an entity, a question mark where XML has no such character, or the byte
-unfoldable pub xml_byte : ℕ → List ℕ
-xml_byte b =
-    if b == 38 then codes "&amp;" else
-    if b == 60 then codes "&lt;" else
-    if b == 62 then codes "&gt;" else
-    if b == 34 then codes "&quot;" else
-    if nat_lt b 32 then codes "?" else
-    b ∷ []
-
-abbrev pub escaped_byte : Escaping → ℕ → List ℕ
-escaped_byte Json b = json_byte b
-escaped_byte Xml b = xml_byte b
+-- what stands for a character in XML: an entity, a question mark where XML has no such character, or the character
+unfoldable pub xml_char : ℕ → List ℕ
+xml_char c =
+    if c == 38 then codes "&amp;" else
+    if c == 60 then codes "&lt;" else
+    if c == 62 then codes "&gt;" else
+    if c == 34 then codes "&quot;" else
+    if nat_lt c 32 || c == 0xfffe || c == 0xffff then codes "?" else
+    encode_utf8 c
 
 -- the whole text
 abbrev pub escaped : Escaping → List ℕ → List ℕ
-escaped form text = flat_map (escaped_byte form) text
+escaped Json text = flat_map json_byte text
+escaped Xml text = flat_map xml_char (chars text)
+
+-- what stands for a character
+abbrev pub escaped_char : Escaping → ℕ → List ℕ
+escaped_char Json c = escaped Json (encode_utf8 c)
+escaped_char Xml c = xml_char c
 
 -- a string of JSON
 unfoldable pub quoted : List ℕ → List ℕ

@@ -34,14 +34,14 @@ index_note i b = codes "block " ++ (decimal i ++ (codes ": " ++ amount_text b.si
 unfoldable pub count_note : ℕ → List ℕ
 count_note pieces = codes ", " ++ (decimal pieces ++ codes " pieces")
 
-unfoldable pub row_label_svg : (i width pieces : ℕ) → MemoryBlockReport → List ℕ
-row_label_svg i width pieces b = index_note i b ++ (count_note pieces ++ (scale_note width ++ codes "</text>\n"))
+unfoldable pub row_label_svg : (largest i pieces : ℕ) → MemoryBlockReport → List ℕ
+row_label_svg largest i pieces b = index_note i b ++ (count_note pieces ++ (scale_note largest b.size ++ codes "</text>\n"))
 
 -- the i-th bar: the whole block, and each piece of its range once
 unfoldable pub row_bar_svg : (largest : ℕ) → List AllocationReport → (i : ℕ) → MemoryBlockReport → List ℕ
 row_bar_svg largest rows i b =
     let width = bar_width largest b.size in
-    bar_start_svg i ++ (row_label_svg i width (length (rows_in rows b)) b
+    bar_start_svg i ++ (row_label_svg largest i (length (rows_in rows b)) b
     ++ (cell_svg b.size width (rest_cell b) ++ (flat_map (λ a. cell_svg b.size width (row_cell a)) (rows_in rows b) ++ codes "</g>\n")))
 
 abbrev pub row_bars_svg : (largest : ℕ) → List AllocationReport → (i : ℕ) → List MemoryBlockReport → List ℕ

@@ -92,9 +92,9 @@ shown_pages size page = if nat_lt 1 page && nat_le (size / page) 250 then size /
 unfoldable pub bar_width : (largest size : ℕ) → ℕ
 bar_width largest size = max (place largest 10000 size) 1250
 
--- whether a bar of that width is to scale
-abbrev pub scale_note : ℕ → List ℕ
-scale_note width = if nat_le width 1250 then codes ", not to scale" else []
+-- whether its bar is to scale
+abbrev pub scale_note : (largest size : ℕ) → List ℕ
+scale_note largest size = if nat_lt (place largest 10000 size) 1250 then codes ", not to scale" else []
 
 -- numbers of 64 bits at most
 abbrev pub capped : ℕ → ℕ

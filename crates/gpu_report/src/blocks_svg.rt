@@ -197,18 +197,19 @@ fn write_page_note<W: fmt::Write>(page: u64, f: &mut fmt::Formatter<W>) -> fmt::
 
 #[tactic(auto, unfolding(crate::specs::BlocksSvg::label_svg))]
 fn write_label<W: fmt::Write>(
-    width: u64,
+    largest: u64,
     view: &BlockView<'_>,
     f: &mut fmt::Formatter<W>,
 ) -> fmt::Result
-    ensures { DisplaysOnOk W.write_str_gives f.old result (Some (label_svg width view.now)) f.new }
+    ensures { DisplaysOnOk W.write_str_gives f.old result (Some (label_svg largest view.now))
+        f.new }
 {
     let counted = view.block.statistics();
     write_block_note(view, f)?;
     write_pieces_note(counted.pieces, counted.piece_bytes, f)?;
     write_gaps_note(counted, f)?;
     write_page_note(view.page_size, f)?;
-    write_scale_note(width, f)?;
+    write_scale_note(largest, view.block.size(), f)?;
     f.write_str("</text>\n")
 }
 
@@ -226,7 +227,7 @@ fn write_bar<W: fmt::Write>(
     let width = bar_width(largest, size);
     let scale = Scale { size, width };
     write_bar_start(i, f)?;
-    write_label(width, view, f)?;
+    write_label(largest, view, f)?;
     write_cells(scale, view.block.pieces(), f)?;
     write_page_ends(scale, view.page_size, f)?;
     f.write_str("</g>\n")

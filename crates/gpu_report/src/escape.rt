@@ -2,7 +2,7 @@
 
 ghost use Rattle.std.specs.Prelude.{Some, encode_utf8};
 ghost use Rattle.std.specs.Fmt.{DisplaysOnOk};
-ghost use Rattle.gpu_report.specs.Escape.{escaped, quoted};
+ghost use Rattle.gpu_report.specs.Escape.{escaped, escaped_char, xml_char, quoted};
 
 use std::fmt;
 
@@ -37,24 +37,22 @@ fn write_json_char<W: fmt::Write>(c: char, f: &mut fmt::Formatter<W>) -> fmt::Re
     }
 }
 
-#[tactic(auto, unfolding(crate::specs::Escape::xml_byte))]
+#[tactic(auto, unfolding(crate::specs::Escape::xml_char))]
 fn write_xml_char<W: fmt::Write>(c: char, f: &mut fmt::Formatter<W>) -> fmt::Result
-    ensures { DisplaysOnOk W.write_str_gives f.old result
-        (Some (escaped Escaping.Xml (encode_utf8 c))) f.new }
+    ensures { DisplaysOnOk W.write_str_gives f.old result (Some (xml_char c)) f.new }
 {
     match c {
         '&' => f.write_str("&amp;"),
         '<' => f.write_str("&lt;"),
         '>' => f.write_str("&gt;"),
         '"' => f.write_str("&quot;"),
-        '\0'..='\u{1f}' => f.write_str("?"),
+        '\0'..='\u{1f}' | '\u{fffe}' | '\u{ffff}' => f.write_str("?"),
         _ => f.write_char(c),
     }
 }
 
 fn write_char<W: fmt::Write>(form: Escaping, c: char, f: &mut fmt::Formatter<W>) -> fmt::Result
-    ensures { DisplaysOnOk W.write_str_gives f.old result (Some (escaped form (encode_utf8 c)))
-        f.new }
+    ensures { DisplaysOnOk W.write_str_gives f.old result (Some (escaped_char form c)) f.new }
 {
     match form {
         Escaping::Json => write_json_char(c, f),

@@ -110,18 +110,18 @@ fn write_count_note<W: fmt::Write>(pieces: usize, f: &mut fmt::Formatter<W>) -> 
 
 #[tactic(auto, unfolding(crate::specs::ReportSvg::row_label_svg))]
 fn write_label<W: fmt::Write>(
+    largest: u64,
     i: u64,
-    width: u64,
     pieces: usize,
     block: &MemoryBlockReport,
     f: &mut fmt::Formatter<W>,
 ) -> fmt::Result
     ensures { DisplaysOnOk W.write_str_gives f.old result
-        (Some (row_label_svg i width pieces block.now)) f.new }
+        (Some (row_label_svg largest i pieces block.now)) f.new }
 {
     write_index_note(i, block, f)?;
     write_count_note(pieces, f)?;
-    write_scale_note(width, f)?;
+    write_scale_note(largest, block.size, f)?;
     f.write_str("</text>\n")
 }
 
@@ -141,7 +141,7 @@ fn write_bar<W: fmt::Write>(
     let scale = Scale { size, width };
     let own = rows_in(rows, block);
     write_bar_start(i, f)?;
-    write_label(i, width, own.len(), block, f)?;
+    write_label(largest, i, own.len(), block, f)?;
     write_rest(scale, block, f)?;
     write_rows(scale, own, f)?;
     f.write_str("</g>\n")

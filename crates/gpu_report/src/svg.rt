@@ -233,11 +233,15 @@ pub fn write_page_ends<W: fmt::Write>(
     Ok(())
 }
 
-/// Writes that a bar of that width isn't to scale, where it isn't.
-pub fn write_scale_note<W: fmt::Write>(width: u64, f: &mut fmt::Formatter<W>) -> fmt::Result
-    ensures { DisplaysOnOk W.write_str_gives f.old result (Some (scale_note width)) f.new }
+/// Writes that the bar of a block of `size` bytes isn't to scale, where it isn't.
+pub fn write_scale_note<W: fmt::Write>(
+    largest: u64,
+    size: u64,
+    f: &mut fmt::Formatter<W>,
+) -> fmt::Result
+    ensures { DisplaysOnOk W.write_str_gives f.old result (Some (scale_note largest size)) f.new }
 {
-    if width > 1250 {
+    if place(largest, 10_000, size) >= 1250 {
         return Ok(());
     }
     f.write_str(", not to scale")

@@ -13,7 +13,7 @@ use std::alloc::Global;
 use std::fmt::Display;
 use std::process::Abort;
 
-const NAME: &str = "a<b&c\"d\\e>\n\u{1}ü";
+const NAME: &str = "a<b&c\"d\\e>\n\u{1}ü\u{fffd}\u{fffe}\u{ffff}";
 
 /// Looks that each step of a test went as it should; a failed one is told by its place.
 fn check(rt: &impl Abort, steps: &[bool]) {
@@ -204,7 +204,7 @@ fn report_prints(alloc: Global) -> bool {
             ) && prints_among(
                 alloc,
                 &ReportSvg(&report),
-                &["bytes at 9007199254740993: a&lt;b&amp;c&quot;d\\e&gt;??ü</title>"],
+                &["bytes at 9007199254740993: a&lt;b&amp;c&quot;d\\e&gt;??ü\u{fffd}??</title>"],
             )
         }
         None => false,
@@ -249,11 +249,18 @@ fn each_form(alloc: Global) -> Option<bool> {
 
 const LARGE: &str = "type 0, slot 0: 8.0 EiB, 0 pieces, 0 B taken, 1 gaps, longest 8.0 EiB</text>";
 
-/// What is told of a small block beside a large one.
+/// A bar of an eighth is to scale.
+const EIGHTH: &str = "type 0, slot 2: 1.0 EiB, 0 pieces, 0 B taken, 1 gaps, longest 1.0 EiB</text>";
+
+/// What is told of a small block, and of an eighth of the large one, beside a large one.
 fn beside_a_large_one(alloc: Global, small: &SubAllocator) -> bool {
     let large = SubAllocator::Dedicated(DedicatedBlockAllocator::new(
         alloc,
         9_223_372_036_854_775_808,
+    ));
+    let eighth = SubAllocator::Dedicated(DedicatedBlockAllocator::new(
+        alloc,
+        1_152_921_504_606_846_976,
     ));
     let views = [
         BlockView {
@@ -265,11 +272,15 @@ fn beside_a_large_one(alloc: Global, small: &SubAllocator) -> bool {
             page_size: 1024,
             ..view(1, small)
         },
+        BlockView {
+            memory_type: 0,
+            ..view(2, &eighth)
+        },
     ];
     prints_among(
         alloc,
         &BlocksSvg(&views),
-        &[LARGE, "pages of 1.0 KiB, not to scale</text>"],
+        &[LARGE, "pages of 1.0 KiB, not to scale</text>", EIGHTH],
     )
 }
 

@@ -25,7 +25,7 @@ use Rattle.gpu_run.specs.D3D12Reply.{SessionReply, shown}
 use Rattle.gpu_run.specs.D3D12Session.{Binds, Names}
 use Rattle.gpu_run.specs.D3D12Served.{SessionValue, session_of, IsAnswered}
 use Rattle.gpu_run.proofs.D3D12Counting.{allocate_leaves, pool_leaves}
-use Rattle.gpu_run.proofs.D3D12Serving.{serves_at, constant_by, answered_by}
+use Rattle.gpu_run.proofs.D3D12Serving.{serves_at, constant_by, answered_apart}
 
 -- the model's reply, where an allocation is given
 allocated_reply : (d : AllocationCreateDesc) (a : Allocation) (reply : answers.Reply ID3D12Heap) → Replies d (Ok a) reply
@@ -55,8 +55,8 @@ module _ {D : Type 0} (g : Ghosts D) (law : (d : D) → g.refused d ≡ refused_
     answered : (model_reply : answers.Reply ID3D12Heap) (reply : SessionReply) → (step : IsStep g (model.Allocate d) (module_replies.Pool model_reply) old.allocator new.allocator)
         → Binds key w.name model_reply reply (bindings_of old.bound) (bindings_of new.bound) → IsAnswered g (Under key (Alloc w)) reply old new
     answered model_reply reply step binds =
-        answered_by g law (Under key (Alloc w)) reply (record { room = true; met = step.environment }) old new
-        (allocate_leaves (basis_of g old.allocator) d step.environment (module_replies.Pool model_reply) (model_of g old.allocator) (model_of g new.allocator) step.step).count
+        answered_apart g law (Under key (Alloc w)) reply (record { room = true; met = step.environment }) old new
+        (allocate_leaves (basis_of g old.allocator) d step.environment (module_replies.Pool model_reply) (model_of g old.allocator) (model_of g new.allocator) step.step)
         (constant_by g old new first setup step.same_version)
         (serves_at (basis_of g old.allocator) (session_of g old) (session_of g new) key (Alloc w) (record { room = true; met = step.environment }) reply None none
         (record { description = d; asks = asks; model_reply = model_reply; step = step.step; binds = binds; resources = ap (λ b. bindings_of b) resources })) journal
@@ -83,8 +83,8 @@ module _ {D : Type 0} (g : Ghosts D) (law : (d : D) → g.refused d ≡ refused_
     named_by : (model_reply : answers.Reply ID3D12Heap) → (step : IsStep g (model.Rename a name) (module_replies.Pool model_reply) old.allocator new.allocator)
         → Names key a name model_reply reply (bindings_of old.bound) (bindings_of new.bound) → IsAnswered g (Under key (Rename name)) reply old new
     named_by model_reply step names =
-        answered_by g law (Under key (Rename name)) reply (record { room = true; met = step.environment }) old new
-        (pool_leaves (basis_of g old.allocator) (calls.Rename a.memory_type_index (piece_of a) name) step.environment (module_replies.Pool model_reply) (model_of g old.allocator) (model_of g new.allocator) step.step).count
+        answered_apart g law (Under key (Rename name)) reply (record { room = true; met = step.environment }) old new
+        (pool_leaves (basis_of g old.allocator) (calls.Rename a.memory_type_index (piece_of a) name) step.environment (module_replies.Pool model_reply) (model_of g old.allocator) (model_of g new.allocator) step.step)
         (constant_by g old new first setup step.same_version)
         (serves_at (basis_of g old.allocator) (session_of g old) (session_of g new) key (Rename name) (record { room = true; met = step.environment }) reply (Some a) found
         (record { model_reply = model_reply; step = step.step; names = names; resources = ap (λ b. bindings_of b) resources })) journal

@@ -114,17 +114,19 @@ module _ (basis : Basis) where
 
   -- ---- a call that asks for no resource
 
-  -- what such a call leaves
+  -- what such a call met with and leaves
   pub record Leaves (met : model.Environment) (old new : Model) : Type 0 where
     pub count : refusals new ≡ refused_after met (refusals old)
     pub beside : new.pool.source.beside ≡ old.pool.source.beside
     pub committed : new.committed ≡ old.committed
+    pub unasked : met.resource ≡ None
 
   leaves : (met : model.Environment) (old new : Model) → met.resource ≡ None → Sees met.pool old.pool.source new.pool.source → new.committed ≡ old.committed → Leaves met old new
   leaves met old new none sees same = record {
     count = sees.count ∙ ap (λ r. refused_by_resource r (refused_by_heap met.pool (refusals old))) (sym none);
     beside = sees.beside;
     committed = same;
+    unasked = none;
   }
 
   pub pool_leaves : (q : calls.Call ID3D12Heap (Unit {0})) (met : model.Environment) (reply : module_replies.Reply) (old new : Model)
@@ -141,4 +143,5 @@ module _ (basis : Basis) where
     count = ap refusals h.2 ∙ ap (λ m. refused_after m (refusals old)) (sym h.0);
     beside = ap (λ (m : Model). m.pool.source.beside) h.2;
     committed = ap (λ (m : Model). m.committed) h.2;
+    unasked = ap (λ (m : model.Environment). m.resource) h.0;
   }

@@ -14,9 +14,9 @@ use Rattle.gpu_pool.specs.Allocation.{piece_of}
 use Rattle.gpu_d3d12.specs.Live.{Allocation}
 use Rattle.gpu_d3d12.specs.Reply.{Reply, Pool, Made, Statistics}
 use Rattle.gpu_d3d12.specs.Resource.{IsMade, LiesIn, IsNewIn}
-use Rattle.gpu_d3d12.specs.State.{Model, basis_of, model_of}
+use Rattle.gpu_d3d12.specs.State.{Model, basis_of, model_of, pool_of}
 use Rattle.gpu_d3d12.specs.Step as model
-use Rattle.gpu_d3d12.specs.Step.{IsStep, IsCreateStep, RepliesResource}
+use Rattle.gpu_d3d12.specs.Step.{IsStep, IsCreateStep, RepliesResource, TellsReason}
 use Rattle.gpu_d3d12.specs.declared.resource.Resource.{Resource}
 use Rattle.gpu_run.specs.Bindings.{bind, bindings_of}
 use Rattle.gpu_run.specs.D3D12Command.{Create, UnderResource}
@@ -81,12 +81,16 @@ live_made old new r (Some a) is gives recorded = gives.0
 module _ {D : Type 0} (g : Ghosts D) (law : (d : D) → g.refused d ≡ refused_in (g.history d)) (old new : SessionValue D) (key : ℕ) (w : WantedResource) (d : ResourceCreateDesc)
     (asks : AsksForResource w d) (none : bindings_of old.resources key ≡ None) (first : new.allocator.first ≡ old.allocator.first) (setup : new.allocator.setup ≡ old.allocator.setup)
     (bound : new.bound ≡ old.bound) where
-  answered : (model_reply : Reply) (reply : SessionReply) → (step : IsStep g (model.CreateResource d) model_reply old.allocator new.allocator)
+  -- the allocator's step, and the reason that was met with
+  abbrev Steps : Reply → Type 0
+  Steps model_reply = (step : IsStep g (model.CreateResource d) model_reply old.allocator new.allocator) × TellsReason g step.environment.resource (pool_of new.allocator).source
+
+  answered : (model_reply : Reply) (reply : SessionReply) → Steps model_reply
       → BindsResource key d model_reply reply (bindings_of old.resources) (bindings_of new.resources)
       → new.allocator.journal ≡ journal_after (UnderResource key (Create w)) reply (bindings_of old.resources) old.allocator.journal → IsAnswered g (UnderResource key (Create w)) reply old new
-  answered model_reply reply step binds journal =
+  answered model_reply reply (step, reason) binds journal =
       answered_by g law (UnderResource key (Create w)) reply (record { room = true; met = step.environment }) old new
-      (create_grows (basis_of g old.allocator) d step.environment model_reply (model_of g old.allocator) (model_of g new.allocator) step.step).count
+      (create_grows (basis_of g old.allocator) d step.environment model_reply (model_of g old.allocator) (model_of g new.allocator) step.step).count reason
       (constant_by g old new first setup step.same_version)
       (serves_resource_at (basis_of g old.allocator) (session_of g old) (session_of g new) key (Create w) (record { room = true; met = step.environment }) reply None none
       (record { description = d; asks = asks; model_reply = model_reply; step = step.step; binds = binds; bound = ap (λ b. bindings_of b) bound })) journal
@@ -96,7 +100,7 @@ module _ {D : Type 0} (g : Ghosts D) (law : (d : D) → g.refused d ≡ refused_
       → new.allocator.journal ≡ old.allocator.journal → IsAnswered g (UnderResource key (Create w)) (replies.Error (refusal_of e)) old new
   not_created e same s journal =
       answered (Pool (answers.Error (refusal_of e))) (replies.Error (refusal_of e))
-      (subst (λ r. IsStep g (model.CreateResource d) r old.allocator new.allocator) (failed_reply d e s.reply s.replies) s.step) (refl, same) journal
+      (subst (λ r. Steps r) (failed_reply d e s.reply s.replies) (s.step, s.reason)) (refl, same) journal
 
   -- the allocator made it
   pub created : (r : Resource) (told : ShownResource) → told ≡ record { number = r.resource.0; size = r.size; piece = shown_piece r.allocation }
@@ -107,5 +111,5 @@ module _ {D : Type 0} (g : Ghosts D) (law : (d : D) → g.refused d ≡ refused_
       let pieces = piece_shown m.t d m.piece r.allocation m.made.allocation in
       let is : told ≡ shown_resource m.t m.piece m.number m.size = shows ∙ (λ i. record { number = m.made.resource i; size = m.made.size_is i; piece = pieces i }) in
       answered (Made m.t m.piece m.number m.size) (replies.Made told)
-      (subst (λ k. IsStep g (model.CreateResource d) k old.allocator new.allocator) m.is s.step) (r, m.made, ap replies.Made is, same)
+      (subst (λ k. Steps k) m.is (s.step, s.reason)) (r, m.made, ap replies.Made is, same)
       (journal ∙ ap (λ n. with_made (Some n) old.allocator.journal) (sym (ap (λ k. k.number) shows)))

@@ -1,5 +1,5 @@
 -- What the session's calls cite.
-use Rattle.std.proofs.Common.{◌≡◌, ◌∙◌, ℕ, List, [], ◌∷◌, Option, Some, true, false, Result, Ok, Err, Global, refl, sym, ap, subst}
+use Rattle.std.proofs.Common.{◌≡◌, ◌∙◌, ℕ, List, [], ◌∷◌, Option, Some, None, true, false, Result, Ok, Err, Global, refl, sym, ap, subst}
 use Rattle.std.specs.Prelude.{IfOk, OnErr, Vec}
 use Rattle.gpu_values.specs.declared.error.AllocationError.{AllocationError}
 use Rattle.gpu_device.specs.D3D12History.{refused_in}
@@ -10,9 +10,11 @@ use Rattle.gpu_d3d12.specs.declared.device_version.ID3D12DeviceVersion.TheVarian
 use Rattle.gpu_pool.specs.Allocation.{AreDistinct}
 use Rattle.gpu_d3d12.specs.Live.{Allocation}
 use Rattle.gpu_d3d12.specs.Reply as module_replies
-use Rattle.gpu_d3d12.specs.State.{State, Basis, interface_of, basis_of, model_of}
+use Rattle.gpu_d3d12.specs.ResourceAnswer.{ResourceAnswer}
+use Rattle.gpu_d3d12.specs.Source.{SourceState}
+use Rattle.gpu_d3d12.specs.State.{State, Basis, interface_of, basis_of, model_of, pool_of}
 use Rattle.gpu_d3d12.specs.Step as model
-use Rattle.gpu_d3d12.specs.Step.{Step, IsStep, nothing_met}
+use Rattle.gpu_d3d12.specs.Step.{Step, IsStep, IsReasonMet, TellsReason, nothing_met}
 use Rattle.gpu_d3d12.specs.declared.resource.Resource.{Resource}
 use Rattle.gpu_run.specs.Bindings.{bindings_of}
 use Rattle.gpu_block_session.specs.CommandList.{IsRun}
@@ -22,7 +24,7 @@ use Rattle.gpu_run.specs.D3D12Session.{SessionState, CommandEnvironment, refused
 use Rattle.gpu_run.specs.D3D12Served.{SessionValue, session_of, IsConstant, IsAnswered, ServesCommand, journal_after}
 use Rattle.gpu_run.specs.declared.d3d12.command.Command.{Command}
 use Rattle.gpu_run.specs.declared.d3d12.reply.Reply.{Reply}
-use Rattle.gpu_run.proofs.D3D12Counting.{refusals}
+use Rattle.gpu_run.proofs.D3D12Counting.{refusals, Leaves}
 
 -- nothing is met with
 abbrev pub quiet : CommandEnvironment
@@ -58,6 +60,15 @@ module _ {D : Type 0} (g : Ghosts D) where
     interface = ap interface_of version ∙ same_interface old.allocator.device (device_of new.allocator.device);
   }
 
+  -- where no resource was asked for, there is no reason to tell
+  pub no_reason : (asked : Option ResourceAnswer) (s : SourceState D) → asked ≡ None → TellsReason g asked s
+  no_reason asked s none = record {
+    answered = s;
+    told = subst (λ a. IsReasonMet g a (device_of s.device)) (sym none) tt;
+    went = None;
+    gives_back = refl;
+  }
+
   -- the allocator isn't called
   pub answered_quietly : (old new : SessionValue D) (command : SessionCommand) (reply : SessionReply) (o : CommandEnvironment) → new.allocator ≡ old.allocator → o.met ≡ nothing_met
       → Serves (basis_of g old.allocator) command o reply (session_of g old) (session_of g new)
@@ -69,37 +80,49 @@ module _ {D : Type 0} (g : Ghosts D) where
       serves = serves;
       count = ap (λ (a : State D). g.refused (device_of a.device)) same ∙ ap (λ m. refused_after m (g.refused (device_of old.allocator.device))) (sym unmet);
     };
+    reason = no_reason o.met.resource (pool_of new.allocator).source (ap (λ (m : model.Environment). m.resource) unmet);
     constant = record { first = ap (λ (a : State D). a.first) same; setup = ap (λ (a : State D). a.setup) same; interface = ap (λ (a : State D). interface_of a.device) same };
     journal = ap (λ (a : State D). a.journal) same ∙ sym journal;
   }
 
   -- the allocator's call is a step, of which the refusals are counted
   pub answered_by : ((d : D) → g.refused d ≡ refused_in (g.history d)) → (command : SessionCommand) (reply : SessionReply) (o : CommandEnvironment) (old new : SessionValue D)
-      → refusals (model_of g new.allocator) ≡ refused_after o.met (refusals (model_of g old.allocator)) → IsConstant g old new
+      → refusals (model_of g new.allocator) ≡ refused_after o.met (refusals (model_of g old.allocator))
+      → TellsReason g o.met.resource (pool_of new.allocator).source → IsConstant g old new
       → Serves (basis_of g old.allocator) command o reply (session_of g old) (session_of g new)
       → new.allocator.journal ≡ journal_after command reply (bindings_of old.resources) old.allocator.journal
       → IsAnswered g command reply old new
-  answered_by law command reply o old new count constant serves journal = record {
+  answered_by law command reply o old new count reason constant serves journal = record {
     served = record {
       environment = o;
       serves = serves;
       count = law (device_of new.allocator.device) ∙ count ∙ ap (refused_after o.met) (sym (law (device_of old.allocator.device)));
     };
+    reason = reason;
     constant = constant;
     journal = journal;
   }
+
+  -- the same of a call that asks for no resource
+  pub answered_apart : ((d : D) → g.refused d ≡ refused_in (g.history d)) → (command : SessionCommand) (reply : SessionReply) (o : CommandEnvironment) (old new : SessionValue D)
+      → Leaves (basis_of g old.allocator) o.met (model_of g old.allocator) (model_of g new.allocator) → IsConstant g old new
+      → Serves (basis_of g old.allocator) command o reply (session_of g old) (session_of g new)
+      → new.allocator.journal ≡ journal_after command reply (bindings_of old.resources) old.allocator.journal
+      → IsAnswered g command reply old new
+  answered_apart law command reply o old new leaves constant serves journal =
+      answered_by law command reply o old new leaves.count (no_reason o.met.resource (pool_of new.allocator).source leaves.unasked) constant serves journal
 
   -- what the allocator replied to a call that is no one number's is handed on
   pub told : ((d : D) → g.refused d ≡ refused_in (g.history d)) → (call : model.Call) (model_reply : module_replies.Reply) (reply : SessionReply) (command : SessionCommand) (old new : SessionValue D)
       → reply_by model_reply ≡ Some reply → new.bound ≡ old.bound → new.resources ≡ old.resources → new.allocator.first ≡ old.allocator.first → new.allocator.setup ≡ old.allocator.setup
       → (step : IsStep g call model_reply old.allocator new.allocator)
-      → refusals (model_of g new.allocator) ≡ refused_after step.environment (refusals (model_of g old.allocator))
+      → Leaves (basis_of g old.allocator) step.environment (model_of g old.allocator) (model_of g new.allocator)
       → (Asks (basis_of g old.allocator) call step.environment reply (session_of g old) (session_of g new)
       → Serves (basis_of g old.allocator) command (record { room = true; met = step.environment }) reply (session_of g old) (session_of g new))
       → new.allocator.journal ≡ journal_after command reply (bindings_of old.resources) old.allocator.journal
       → IsAnswered g command reply old new
-  told law call model_reply reply command old new is same also first setup step count serves journal =
-      answered_by law command reply (record { room = true; met = step.environment }) old new count (constant_by old new first setup step.same_version)
+  told law call model_reply reply command old new is same also first setup step leaves serves journal =
+      answered_apart law command reply (record { room = true; met = step.environment }) old new leaves (constant_by old new first setup step.same_version)
       (serves (record {
         model_reply = model_reply;
         step = step.step;

@@ -2,7 +2,8 @@
 use Rattle.std.specs.Prelude.{◌≡◌, ℕ, List, ◌∷◌, Option, Some, None}
 use Rattle.gpu_device.specs.declared.d3d12.device.D3D12Device.{Ghosts}
 use Rattle.gpu_d3d12.specs.DeviceVersion.{device_of}
-use Rattle.gpu_d3d12.specs.State.{State, basis_of, interface_of, model_of}
+use Rattle.gpu_d3d12.specs.State.{State, basis_of, interface_of, model_of, pool_of}
+use Rattle.gpu_d3d12.specs.Step.{TellsReason}
 use Rattle.gpu_d3d12.specs.Live.{Allocation}
 use Rattle.gpu_d3d12.specs.declared.journal.ResourceEvent.{ResourceEvent}
 use Rattle.gpu_d3d12.specs.declared.journal.ResourceEvent.TheVariants as events
@@ -58,9 +59,10 @@ module _ {D : Type 0} (g : Ghosts D) where
     pub setup : new.allocator.setup ≡ old.allocator.setup
     pub interface : interface_of new.allocator.device ≡ interface_of old.allocator.device
 
-  -- a command of the model is served
+  -- a command of the model is served; where the device refused a resource, the reason that was met with is the one that it told
   pub record IsAnswered (command : SessionCommand) (reply : SessionReply) (old new : SessionValue D) : Type 0 where
     pub served : IsServed (basis_of g old.allocator) command reply (session_of old) (session_of new)
+    pub reason : TellsReason g served.environment.met.resource (pool_of new.allocator).source
     pub constant : IsConstant old new
     pub journal : new.allocator.journal ≡ journal_after command reply (bindings_of old.resources) old.allocator.journal
 

@@ -18,7 +18,7 @@ properties_of s = record { types = s.types.items; heaps = s.heaps.items; granula
 abbrev pub plan_of : SimVulkan → Plan
 plan_of s = record {
   properties = properties_of s;
-  limit = s.limit;
+  limit = s.journal.limit;
   script = s.journal.script.entries.items;
   questions = s.journal.script.questions;
   issued = issued s.memories;

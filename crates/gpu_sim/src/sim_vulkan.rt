@@ -3,8 +3,8 @@
 ghost use Rattle.std.specs.Prelude.{◌≡◌, ◌≢◌, ℕ, ◌+◌, ◌^◌, ◌<◌, List, [], ◌∷◌, length, replicate, refl, Some, None, IfSome, IfOk, IfErr, OnErr, OnOk, true, false};
 ghost use Rattle.std.specs.FinMap.{empty, get, insert, remove, len as map_len};
 ghost use Rattle.gpu_device.specs.Held.{new_entry, size_of, IsUnmapped, mapped_with, unmapped, raised};
-ghost use Rattle.gpu_device.specs.VulkanHistory.{scripted};
-ghost use Rattle.gpu_device.specs.declared.vulkan.event.Event.TheVariants.{AskedMemory, AskedMapping, Unmapped, Freed};
+ghost use Rattle.gpu_device.specs.VulkanHistory.{scripted, questions_in};
+ghost use Rattle.gpu_device.specs.declared.vulkan.event.Event.TheVariants.{Limited, AskedMemory, AskedMapping, Unmapped, Freed};
 ghost use Rattle.gpu_sim.specs.Plan.{asked, given, planned_code, planned_answer, out_of_host_memory};
 ghost use Rattle.gpu_sim.specs.Scripted.{EndAsScripted};
 ghost use Rattle.gpu_sim.specs.Simulation.{held_of, properties_of, plan_of, history_of, refused_of, latest_of, written_sim};
@@ -29,7 +29,6 @@ pub struct SimVulkan {
     heaps: Vec<MemoryHeap>,
     types: Vec<MemoryTypeInfo>,
     granularity: u64,
-    limit: u64,
     memories: Memories,
     journal: ScriptedJournal,
 }
@@ -58,7 +57,7 @@ impl SimVulkan {
           questions = 0;
           issued = 0;
         } }
-        ensures history { history_of result ≡ scripted refusals.items }
+        ensures history { history_of result ≡ Limited limit ∷ scripted refusals.items }
         ensures refused { refused_of result ≡ 0 }
         ensures latest { latest_of result ≡ None }
     {
@@ -67,9 +66,8 @@ impl SimVulkan {
             heaps,
             types,
             granularity,
-            limit,
             memories: Memories::new(alloc),
-            journal: ScriptedJournal::new(refusals),
+            journal: ScriptedJournal::new(limit, refusals),
         }
     }
 
@@ -82,12 +80,13 @@ impl SimVulkan {
 
     /// How many questions came, for memory and for mappings, granted or refused. The count stays at `u64::MAX`.
     pub fn questions(&self) -> u64
-        ensures { result ≡ (plan_of self.now).questions }
+        ensures plan { result ≡ (plan_of self.now).questions }
+        ensures history { result ≡ questions_in (history_of self.now) }
     {
         self.journal.questions()
     }
 
-    /// At any time each question has ended as the script says, with which the history begins. It does nothing.
+    /// At any time each question has ended as the script and the limit say, with which the history begins. It does nothing.
     pub fn ends_as_scripted(&self)
         ensures { EndAsScripted (history_of self.now) }
     {
@@ -177,7 +176,7 @@ impl VulkanDevice for SimVulkan {
         ensures plan_refused { OnErr result (plan_of self.new ≡ asked (plan_of self.old)) }
     {
         let refusal = self.journal.next_refusal();
-        let answer = match code_for_memory(refusal, info.size, self.limit) {
+        let answer = match code_for_memory(refusal, info.size, self.journal.limit()) {
             Some(code) => Err(code),
             None => match self.memories.add(info) {
                 Ok(number) => Ok(DeviceMemory(number)),

@@ -3,7 +3,7 @@ use Rattle.std.proofs.Common.{◌≡◌, ℕ, ◌==◌, if◌then◌else◌, Lis
 use Rattle.gpu_device.specs.D3D12History.{scripted, scripted_in, questions_in, refused_in}
 use Rattle.gpu_device.specs.declared.refusal.Refusal.{Refusal}
 use Rattle.gpu_sim_base.specs.Script.{refusal_at}
-use Rattle.gpu_sim_d3d12.specs.Scripted.{EndAsScripted}
+use Rattle.gpu_sim_d3d12.specs.Scripted.{EndAsScripted, issued_in}
 
 pub same_entries : (es : List (ℕ × Refusal)) (question : ℕ) → scripted_in (scripted es) question ≡ refusal_at es question
 same_entries [] question = refl
@@ -16,6 +16,10 @@ no_question (e ∷ es) = no_question es
 pub no_refusal : (es : List (ℕ × Refusal)) → refused_in (scripted es) ≡ 0
 no_refusal [] = refl
 no_refusal (e ∷ es) = no_refusal es
+
+pub none_issued : (es : List (ℕ × Refusal)) → 0 ≡ issued_in (scripted es)
+none_issued [] = refl
+none_issued (e ∷ es) = none_issued es
 
 pub ends : (es : List (ℕ × Refusal)) → EndAsScripted (scripted es)
 ends [] = tt

@@ -1,16 +1,18 @@
 //! What a simulated device was asked, beside the script that says which questions it refuses.
 
-ghost use Rattle.std.specs.Prelude.{◌≡◌, ◌∷◌, option_copied};
-ghost use Rattle.gpu_device.specs.D3D12History.{scripted, refused_in, latest_heap_in, latest_resource_in};
+ghost use Rattle.std.specs.Prelude.{◌≡◌, ◌+◌, ◌∷◌, option_copied};
+ghost use Rattle.gpu_device.specs.D3D12History.{scripted, questions_in, refused_in, latest_heap_in, latest_resource_in};
 ghost use Rattle.gpu_device.specs.declared.d3d12.event.Event.TheVariants.{AskedHeap, AskedResource, ReleasedHeap, ReleasedResource};
 ghost use Rattle.gpu_sim_base.specs.Script.{next_refusal, counted};
-ghost use Rattle.gpu_sim_d3d12.specs.Scripted.{EndsAs, EndAsScripted};
+ghost use Rattle.gpu_sim_d3d12.specs.Objects.{IsAnswer};
+ghost use Rattle.gpu_sim_d3d12.specs.Scripted.{EndAsScripted, issued_in};
 
 use gpu_device::d3d12::{HeapDesc, ID3D12Heap, ID3D12Resource, Journal, ResourceRequest};
 use gpu_sim_base::{Refusal, Script};
 use std::marker::Model;
 
-/// The script of a device and its history, which begins with the script's entries: each question ended as the script says.
+/// The script of a device and its history, which begins with the script's entries: each question ended as the script says, and grants
+/// have the numbers 1, 2 and so on.
 #[derive(Drop)]
 pub struct ScriptedJournal {
     script: Script,
@@ -40,7 +42,7 @@ impl ScriptedJournal {
         }
     }
 
-    /// At any time each question has ended as the script says. It does nothing.
+    /// At any time each question has ended as the script says, and a grant has the number behind those before. It does nothing.
     pub fn ends_as_scripted(&self)
         ensures { EndAsScripted self.now.history }
     {
@@ -56,7 +58,8 @@ impl ScriptedJournal {
 
     /// How many questions came, granted or refused. The count stays at `u64::MAX`.
     pub fn questions(&self) -> u64
-        ensures { result ≡ self.now.script.questions }
+        ensures script { result ≡ self.now.script.questions }
+        ensures history { result ≡ questions_in self.now.history }
     {
         self.script.questions()
     }
@@ -82,9 +85,10 @@ impl ScriptedJournal {
         self.journal.last_resource()
     }
 
-    /// A heap was asked for, and the answer is the script's where it has one.
+    /// A heap was asked for. The answer is the script's where it has one; a grant has the next number.
     pub fn asked_heap(&mut self, desc: &HeapDesc, answer: Result<Option<ID3D12Heap>, i32>)
-        requires { EndsAs (next_refusal self.old.script) answer }
+        requires { IsAnswer (λ heap. heap.0) (next_refusal self.old.script)
+            (issued_in self.old.history + 1) answer }
         ensures script { self.new.script ≡ counted self.old.script }
         ensures history { self.new.history ≡ AskedHeap desc.now answer ∷ self.old.history }
     {
@@ -92,13 +96,14 @@ impl ScriptedJournal {
         self.journal.asked_heap(desc, answer);
     }
 
-    /// A resource was asked for, and the answer is the script's where it has one.
+    /// A resource was asked for. The answer is the script's where it has one; a grant has the next number.
     pub fn asked_resource(
         &mut self,
         request: ResourceRequest,
         answer: Result<Option<ID3D12Resource>, i32>,
     )
-        requires { EndsAs (next_refusal self.old.script) answer }
+        requires { IsAnswer (λ resource. resource.0) (next_refusal self.old.script)
+            (issued_in self.old.history + 1) answer }
         ensures script { self.new.script ≡ counted self.old.script }
         ensures history { self.new.history ≡ AskedResource request answer ∷ self.old.history }
     {

@@ -3,15 +3,13 @@
 ghost use Rattle.std.specs.Prelude.{◌≡◌, ◌+◌, [], ◌∷◌, length, refl, Some, None, option_copied, option_map};
 ghost use Rattle.std.specs.FinMap.{empty, len as map_len};
 ghost use Rattle.gpu_device.specs.D3D12.{Heap, Committed, Placed, told_size, told_size1, granted_heap, granted_resource, without_heap, without_resource};
-ghost use Rattle.gpu_device.specs.D3D12History.{scripted, request_formats, request_clear, request_memory};
+ghost use Rattle.gpu_device.specs.D3D12History.{scripted, questions_in, request_formats, request_clear, request_memory};
 ghost use Rattle.gpu_device.specs.Granted.{IsNew, with_granted, counted};
 ghost use Rattle.gpu_device.specs.declared.d3d12.event.Event.TheVariants.{AskedHeap, AskedResource, ReleasedHeap, ReleasedResource};
 ghost use Rattle.gpu_device.specs.declared.d3d12.event.ResourcePlace.TheVariants.{Own, InHeap};
 ghost use Rattle.gpu_device.specs.declared.d3d12.event.ResourceShape.TheVariants.{InState, InLayout};
-ghost use Rattle.gpu_sim_d3d12.specs.Objects.{IsAnswer, entry_of};
-ghost use Rattle.gpu_sim_d3d12.specs.Scripted.{EndAsScripted};
-ghost use Rattle.gpu_sim_d3d12.specs.Simulation.{held_of, info_for, properties_of, history_of, refused_of, latest_heap_of, latest_resource_of, removal_reason_of, plan_of, planned, answered};
-ghost use Rattle.gpu_sim_d3d12.specs.SimulationLaws.{no_null as no_null_law};
+ghost use Rattle.gpu_sim_d3d12.specs.Objects.{IsAnswer, entry_of, issued};
+ghost use Rattle.gpu_sim_d3d12.specs.Scripted.{EndAsScripted, issued_in};
 
 use crate::objects::{Object, Objects};
 use crate::scripted_journal::ScriptedJournal;
@@ -38,9 +36,12 @@ pub struct SimD3D12 {
     tier: Result<ResourceHeapTier, i32>,
     objects: Objects,
     journal: ScriptedJournal,
+    ghost numbered: { issued objects ≡ issued_in journal.history },
 }
 
 impl SimD3D12 {
+    ghost use Rattle.gpu_sim_d3d12.specs.Simulation.{held_of, properties_of, history_of, refused_of, latest_heap_of, latest_resource_of, plan_of, planned, answered};
+
     /// A device that holds nothing, with its heap tier or the code with which that can't be told. `refusals` names
     /// questions by their number, and of two at one number the first counts.
     pub fn new(
@@ -74,12 +75,14 @@ impl SimD3D12 {
 
     /// How many questions came, for heaps and for resources, granted or refused. The count stays at `u64::MAX`.
     pub fn questions(&self) -> u64
-        ensures { result ≡ (plan_of self.now).questions }
+        ensures plan { result ≡ (plan_of self.now).questions }
+        ensures history { result ≡ questions_in (history_of self.now) }
     {
         self.journal.questions()
     }
 
-    /// At any time each question has ended as the script says, with which the history begins. It does nothing.
+    /// At any time each question has ended as the script says, with which the history begins, and a grant has the number behind those
+    /// before. It does nothing.
     pub fn ends_as_scripted(&self)
         ensures { EndAsScripted (history_of self.now) }
     {
@@ -154,6 +157,9 @@ impl SimD3D12 {
 }
 
 impl D3D12Device for SimD3D12 {
+    ghost use Rattle.gpu_sim_d3d12.specs.Simulation.{held_of, info_for, properties_of, history_of, refused_of, latest_heap_of, latest_resource_of, removal_reason_of, plan_of, planned, answered};
+    ghost use Rattle.gpu_sim_d3d12.specs.SimulationLaws.{no_null as no_null_law};
+
     ghost properties = { properties_of };
 
     ghost held = { held_of };

@@ -1,50 +1,51 @@
--- Each question that a simulated device was asked ended as its script says.
-use Rattle.std.specs.Prelude.{◌≡◌, ℕ, ℤ, pos, neg_ℤ, List, [], ◌∷◌, Option, Some, None, Result, Ok, Err}
-use Rattle.gpu_device.specs.MetalHistory.{scripted_in, questions_in, next_scripted}
+-- Each question that a simulated device was asked ended as its script says, and its grants are numbered 1, 2 and so on.
+use Rattle.std.specs.Prelude.{◌≡◌, ℕ, ◌+◌, Bool, true, false, List, [], ◌∷◌, Option}
+use Rattle.gpu_device.specs.Metal.{granted_heap, granted_set}
+use Rattle.gpu_device.specs.MetalHistory.{scripted, scripted_in, questions_in, next_scripted, sets_in}
 use Rattle.gpu_device.specs.declared.metal.event.Event.{Event}
-use Rattle.gpu_device.specs.declared.metal.event.Event.TheVariants.{Scripted, AskedHeap, AskedSet, ReleasedHeap, Added, Removed, Committed}
-use Rattle.gpu_device.specs.declared.metal.types.MTLHeap.{MTLHeap}
-use Rattle.gpu_device.specs.declared.metal.types.MTLResidencySet.{MTLResidencySet}
+use Rattle.gpu_device.specs.declared.metal.event.Event.TheVariants.{Scripted, WithoutSets, AskedHeap, AskedSet, ReleasedHeap, Added, Removed, Committed}
 use Rattle.gpu_device.specs.declared.refusal.Refusal.{Refusal}
-use Rattle.gpu_device.specs.declared.refusal.Refusal.TheVariants.{Code, Null}
 use Rattle.gpu_sim_base.specs.Script.{refusal_at}
 use Rattle.gpu_sim_base.specs.declared.script.Script.{Script}
+use Rattle.gpu_sim_metal.specs.Answer.{asked, IsHeapAnswer, IsSetAnswer}
 
--- there are no residency sets, the host refused memory, or the answer is null
-abbrev pub no_set : ℤ
-no_set = neg_ℤ (pos 1)
+-- what a device is told before any question: its script, and where it makes no residency sets, that
+abbrev pub told : (residency : Bool) → List (ℕ × Refusal) → List Event
+told true entries = scripted entries
+told false entries = WithoutSets ∷ scripted entries
 
--- the code with which a set is refused
-abbrev pub code_for_set : Option Refusal → ℤ
-code_for_set None = no_set
-code_for_set (Some Null) = no_set
-code_for_set (Some (Code code)) = code
+-- how many numbers were given out after one more event
+abbrev pub issued_after : Event → ℕ → ℕ
+issued_after (Scripted question refusal) count = count
+issued_after WithoutSets count = count
+issued_after (AskedHeap desc size answer) count = asked count (granted_heap answer)
+issued_after (AskedSet answer) count = asked count (granted_set answer)
+issued_after (ReleasedHeap heap) count = count
+issued_after (Added set heap) count = count
+issued_after (Removed set heap) count = count
+issued_after (Committed set) count = count
 
--- How a question for a heap ends: by nil where the script refuses it; else by a grant, or by nil because the host refused memory.
-abbrev pub EndsHeap : Option Refusal → Option MTLHeap → Type 0
-EndsHeap (Some refusal) answer = answer ≡ None
-EndsHeap None answer = Unit {0}
+-- how many numbers were given out: one with each grant
+abbrev pub issued_in : List Event → ℕ
+issued_in [] = 0
+issued_in (event ∷ before) = issued_after event (issued_in before)
 
--- How a question for a residency set ends: by the script's code where it refuses it; else by a grant, or because there are no sets or
--- the host refused memory.
-abbrev pub EndsSet : Option Refusal → Result MTLResidencySet ℤ → Type 0
-EndsSet next (Err code) = code ≡ code_for_set next
-EndsSet next (Ok set) = next ≡ None
+-- an event, where the script has this for the next question, there are residency sets or not, and a grant takes this number
+abbrev pub Ends : Option Refusal → (residency : Bool) → (number : ℕ) → Event → Type 0
+Ends next residency number (Scripted question refusal) = Unit {0}
+Ends next residency number WithoutSets = Unit {0}
+Ends next residency number (AskedHeap desc size answer) = IsHeapAnswer next number answer
+Ends next residency number (AskedSet answer) = IsSetAnswer residency next number answer
+Ends next residency number (ReleasedHeap heap) = Unit {0}
+Ends next residency number (Added set heap) = Unit {0}
+Ends next residency number (Removed set heap) = Unit {0}
+Ends next residency number (Committed set) = Unit {0}
 
--- an event, where the script has this for the next question
-abbrev pub Ends : Option Refusal → Event → Type 0
-Ends next (Scripted question refusal) = Unit {0}
-Ends next (AskedHeap desc size answer) = EndsHeap next answer
-Ends next (AskedSet answer) = EndsSet next answer
-Ends next (ReleasedHeap heap) = Unit {0}
-Ends next (Added set heap) = Unit {0}
-Ends next (Removed set heap) = Unit {0}
-Ends next (Committed set) = Unit {0}
-
--- Each question of a history, newest first, ended as the script in that history says.
+-- Each question of a history, newest first, ended as the device was told in that history; a granted one gave out the number behind
+-- all that were given out before.
 abbrev pub EndAsScripted : List Event → Type 0
 EndAsScripted [] = Unit {0}
-EndAsScripted (event ∷ before) = Ends (next_scripted before) event × EndAsScripted before
+EndAsScripted (event ∷ before) = Ends (next_scripted before) (sets_in before) (issued_in before + 1) event × EndAsScripted before
 
 -- a script, and a history that begins with its entries
 pub record Journaled : Type 0 where

@@ -1,31 +1,19 @@
 -- What callers see of a simulated device.
-use Rattle.std.specs.Prelude.{ℕ, ◌+◌, ◌*◌, ◌-◌, ◌^◌, ◌≡◌, min, ℤ, Bool, true, false, List, length, Option, Some, None, Result, Ok, Err}
+use Rattle.std.specs.Prelude.{ℕ, Bool, List, length, Option}
 use Rattle.gpu_device.specs.Held.{raised}
 use Rattle.gpu_device.specs.Metal.{Properties, Held}
 use Rattle.gpu_device.specs.MetalHistory.{refused_in, latest_heap_in}
 use Rattle.gpu_device.specs.declared.metal.event.Event.{Event}
 use Rattle.gpu_device.specs.declared.metal.types.HeapDescriptor.{HeapDescriptor}
-use Rattle.gpu_device.specs.declared.metal.types.MTLHeap.{MTLHeap}
-use Rattle.gpu_device.specs.declared.metal.types.MTLResidencySet.{MTLResidencySet}
-use Rattle.gpu_device.specs.declared.metal.types.SizeAndAlign.{SizeAndAlign}
-use Rattle.gpu_device.specs.declared.metal.types.TextureDescriptor.{TextureDescriptor}
 use Rattle.gpu_sim_base.specs.Script.{refusal_at}
-use Rattle.gpu_sim_base.specs.Sizes.{rounded_up}
 use Rattle.gpu_device.specs.declared.refusal.Refusal.{Refusal}
+use Rattle.gpu_sim_metal.specs.Answer.{asked}
 use Rattle.gpu_sim_metal.specs.Objects.{held_by}
-use Rattle.gpu_sim_metal.specs.Scripted.{code_for_set}
+use Rattle.gpu_sim_metal.specs.Sizes.{told_size, texture_bytes}
 use Rattle.gpu_sim_metal.specs.declared.sim_metal.SimMetal.{SimMetal}
 
 abbrev pub held_of : SimMetal → Held
 held_of s = held_by s.objects.numbers.slots.items
-
--- what a resource of so many bytes takes of a heap
-abbrev pub told_size : ℕ → SizeAndAlign
-told_size bytes = record { size = rounded_up bytes 256; align = 256 }
-
--- a texture's bytes: all its texels', at most as many as 64 bits hold
-abbrev pub texture_bytes : TextureDescriptor → ℕ
-texture_bytes desc = min (desc.width * desc.height * desc.bytes_per_texel) (2 ^ 64 - 1)
 
 abbrev pub properties_of : SimMetal → Properties
 properties_of s = record {
@@ -68,25 +56,6 @@ plan_of s = record {
 abbrev pub planned : Plan → Option Refusal
 planned plan = refusal_at plan.script (raised plan.questions)
 
--- how many numbers are given out after an answer
-abbrev pub issued_after : ℕ → Option ℕ → ℕ
-issued_after count None = count
-issued_after count (Some number) = count + 1
-
 -- the plan after an answer
 abbrev pub answered : Plan → Option ℕ → Plan
-answered plan granted = record plan { questions = raised plan.questions; issued = issued_after plan.issued granted }
-
--- the answer to a question for a heap: none where the script refuses it; else the next number, or the host's refusal
-abbrev pub IsHeapAnswer : Option Refusal → ℕ → Option MTLHeap → Type 0
-IsHeapAnswer (Some refusal) next answer = answer ≡ None
-IsHeapAnswer None next None = Unit {0}
-IsHeapAnswer None next (Some heap) = heap.0 ≡ next
-
--- the answer to a question for a set: the script's refusal where it has one, and always a refusal without residency sets;
--- else the next number, or the host's refusal
-abbrev pub IsSetAnswer : Bool → Option Refusal → ℕ → Result MTLResidencySet ℤ → Type 0
-IsSetAnswer residency refusal next (Err code) = code ≡ code_for_set refusal
-IsSetAnswer residency (Some refusal) next (Ok set) = ⊥
-IsSetAnswer false None next (Ok set) = ⊥
-IsSetAnswer true None next (Ok set) = set.0 ≡ next
+answered plan granted = record plan { questions = raised plan.questions; issued = asked plan.issued granted }

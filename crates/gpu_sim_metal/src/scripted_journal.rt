@@ -1,16 +1,18 @@
 //! What a simulated device was asked, beside the script that says which questions it refuses.
 
-ghost use Rattle.std.specs.Prelude.{◌≡◌, ◌∷◌};
-ghost use Rattle.gpu_device.specs.MetalHistory.{scripted, refused_in, latest_heap_in};
+ghost use Rattle.std.specs.Prelude.{◌≡◌, ◌+◌, ◌∷◌};
+ghost use Rattle.gpu_device.specs.MetalHistory.{questions_in, sets_in, refused_in, latest_heap_in};
 ghost use Rattle.gpu_device.specs.declared.metal.event.Event.TheVariants.{AskedHeap, AskedSet, ReleasedHeap, Added, Removed, Committed};
 ghost use Rattle.gpu_sim_base.specs.Script.{next_refusal, counted};
-ghost use Rattle.gpu_sim_metal.specs.Scripted.{EndsHeap, EndsSet, EndAsScripted};
+ghost use Rattle.gpu_sim_metal.specs.Answer.{IsHeapAnswer, IsSetAnswer};
+ghost use Rattle.gpu_sim_metal.specs.Scripted.{EndAsScripted, told, issued_in};
 
 use gpu_device::metal::{HeapDescriptor, Journal, MTLHeap, MTLResidencySet};
 use gpu_sim_base::{Refusal, Script};
 use std::marker::Model;
 
-/// The script of a device and its history, which begins with the script's entries: each question ended as the script says.
+/// The script of a device and its history, which begins with the script's entries: each question ended as the script says, and grants
+/// have the numbers 1, 2 and so on.
 #[derive(Drop)]
 pub struct ScriptedJournal {
     script: Script,
@@ -28,19 +30,20 @@ impl Model for ScriptedJournal {
 }
 
 impl ScriptedJournal {
-    /// Nothing was asked yet. An entry names a question by its number, the first being 1; of two at one number the first counts.
-    pub fn new(entries: Vec<(u64, Refusal)>) -> ScriptedJournal
+    /// Nothing was asked yet; there are residency sets or not. An entry names a question by its number, the first being 1; of two at one
+    /// number the first counts.
+    pub fn new(residency: bool, entries: Vec<(u64, Refusal)>) -> ScriptedJournal
         ensures script { result.script ≡ record { entries = entries; questions = 0 } }
-        ensures history { result.history ≡ scripted entries.items }
+        ensures history { result.history ≡ told residency entries.items }
     {
-        let journal = Journal::with_script(&entries);
+        let journal = begun(residency, &entries);
         ScriptedJournal {
             script: Script::new(entries),
             journal,
         }
     }
 
-    /// At any time each question has ended as the script says. It does nothing.
+    /// At any time each question has ended as the script says, and a grant has the number behind those before. It does nothing.
     pub fn ends_as_scripted(&self)
         ensures { EndAsScripted self.now.history }
     {
@@ -56,7 +59,8 @@ impl ScriptedJournal {
 
     /// How many questions came, granted or refused. The count stays at `u64::MAX`.
     pub fn questions(&self) -> u64
-        ensures { result ≡ self.now.script.questions }
+        ensures script { result ≡ self.now.script.questions }
+        ensures history { result ≡ questions_in self.now.history }
     {
         self.script.questions()
     }
@@ -75,9 +79,10 @@ impl ScriptedJournal {
         self.journal.last_heap()
     }
 
-    /// A heap was asked for, and the answer is the script's where it has one.
+    /// A heap was asked for. The answer is the script's where it has one; a grant has the next number.
     pub fn asked_heap(&mut self, desc: &HeapDescriptor, size: u64, answer: Option<MTLHeap>)
-        requires { EndsHeap (next_refusal self.old.script) answer }
+        requires { IsHeapAnswer (next_refusal self.old.script) (issued_in self.old.history + 1)
+            answer }
         ensures script { self.new.script ≡ counted self.old.script }
         ensures history { self.new.history ≡ AskedHeap desc.now size answer ∷ self.old.history }
     {
@@ -85,9 +90,11 @@ impl ScriptedJournal {
         self.journal.asked_heap(desc, size, answer);
     }
 
-    /// A residency set was asked for, and the answer is the script's where it has one.
+    /// A residency set was asked for. It is refused where there are none, the answer is the script's where it has one, and a grant has the
+    /// next number.
     pub fn asked_set(&mut self, answer: Result<MTLResidencySet, i32>)
-        requires { EndsSet (next_refusal self.old.script) answer }
+        requires { IsSetAnswer (sets_in self.old.history) (next_refusal self.old.script)
+            (issued_in self.old.history + 1) answer }
         ensures script { self.new.script ≡ counted self.old.script }
         ensures history { self.new.history ≡ AskedSet answer ∷ self.old.history }
     {
@@ -126,4 +133,15 @@ impl ScriptedJournal {
     {
         self.journal.committed(set);
     }
+}
+
+/// The journal of a device that was told this, and asked nothing yet.
+fn begun(residency: bool, entries: &[(u64, Refusal)]) -> Journal
+    ensures { result.history ≡ told residency entries.now }
+{
+    let mut journal = Journal::with_script(entries);
+    if !residency {
+        journal.without_sets();
+    }
+    journal
 }

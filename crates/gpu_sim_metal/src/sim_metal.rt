@@ -1,14 +1,15 @@
 //! A simulated Metal device.
 
-ghost use Rattle.std.specs.Prelude.{◌≡◌, refl, ◌+◌, [], ◌∷◌, Some, None, option_copied};
+ghost use Rattle.std.specs.Prelude.{◌≡◌, refl, ◌+◌, [], ◌∷◌, Some, None, length, option_copied};
 ghost use Rattle.std.specs.FinMap.{empty, len as map_len};
 ghost use Rattle.gpu_device.specs.Granted.{IsNew, with_granted, counted};
 ghost use Rattle.gpu_device.specs.Metal.{Heap, Set, IsHeap, IsSet, granted_heap, granted_set, without_heap, with_member, without_member, with_commit, members_of, committed_of};
-ghost use Rattle.gpu_device.specs.MetalHistory.{scripted};
+ghost use Rattle.gpu_device.specs.MetalHistory.{questions_in, sets_in};
 ghost use Rattle.gpu_device.specs.declared.metal.event.Event.TheVariants.{AskedHeap, AskedSet, ReleasedHeap, Added, Removed, Committed};
-ghost use Rattle.gpu_sim_metal.specs.Scripted.{code_for_set, EndAsScripted};
-ghost use Rattle.gpu_sim_metal.specs.Simulation.{held_of, issued_after, properties_of, history_of, refused_of, latest_heap_of, plan_of, planned, answered, told_size, texture_bytes, IsHeapAnswer, IsSetAnswer};
-ghost use Rattle.gpu_sim_metal.specs.SimulationLaws.{no_null as no_null_law};
+ghost use Rattle.gpu_sim_metal.specs.Answer.{asked, code_for_set, IsHeapAnswer, IsSetAnswer};
+ghost use Rattle.gpu_sim_metal.specs.Objects.{held_by};
+ghost use Rattle.gpu_sim_metal.specs.Scripted.{EndAsScripted, told, issued_in};
+ghost use Rattle.gpu_sim_metal.specs.Sizes.{told_size, texture_bytes};
 
 use crate::objects::Objects;
 use crate::scripted_journal::ScriptedJournal;
@@ -33,9 +34,13 @@ pub struct SimMetal {
     residency: bool,
     objects: Objects,
     journal: ScriptedJournal,
+    ghost numbered: { length objects.numbers.slots.items ≡ issued_in journal.history },
+    ghost told_sets: { residency ≡ sets_in journal.history },
 }
 
 impl SimMetal {
+    ghost use Rattle.gpu_sim_metal.specs.Simulation.{held_of, history_of, refused_of, latest_heap_of, plan_of};
+
     /// A device that holds nothing, with residency sets or without. `refusals` names questions by their number, and of two
     /// at one number the first counts.
     pub fn new(alloc: Global, residency: bool, refusals: Vec<(u64, Refusal)>) -> Self
@@ -43,12 +48,12 @@ impl SimMetal {
         ensures plan { plan_of result ≡ record
             { residency = residency; script = refusals.items; questions = 0; issued = 0 } }
         ensures refused { refused_of result ≡ 0 }
-        ensures history { history_of result ≡ scripted refusals.items }
+        ensures history { history_of result ≡ told residency refusals.items }
     {
         SimMetal {
             residency,
             objects: Objects::new(alloc),
-            journal: ScriptedJournal::new(refusals),
+            journal: ScriptedJournal::new(residency, refusals),
         }
     }
 
@@ -61,12 +66,14 @@ impl SimMetal {
 
     /// How many questions came, for heaps and for sets, granted or refused. The count stays at `u64::MAX`.
     pub fn questions(&self) -> u64
-        ensures { result ≡ (plan_of self.now).questions }
+        ensures plan { result ≡ (plan_of self.now).questions }
+        ensures history { result ≡ questions_in (history_of self.now) }
     {
         self.journal.questions()
     }
 
-    /// At any time each question has ended as the script says, with which the history begins. It does nothing.
+    /// At any time each question has ended as the script says, with which the history begins, and a grant has the number behind those
+    /// before. It does nothing.
     pub fn ends_as_scripted(&self)
         ensures { EndAsScripted (history_of self.now) }
     {
@@ -99,46 +106,50 @@ impl SimMetal {
             None => None,
         }
     }
+}
 
-    /// The answer to a question for a heap: a number, or none where the script or the host refuses it.
-    fn answer_heap(&mut self, desc: &HeapDescriptor, size: u64) -> Option<MTLHeap>
-        ensures number { IsNew (held_of self.old) (granted_heap result) }
-        ensures holds { held_of self.new
-            ≡ with_granted (held_of self.old) (granted_heap result) (Heap desc.now size) }
-        ensures journal { self.new.journal ≡ self.old.journal }
-        ensures answer { IsHeapAnswer (planned (plan_of self.old)) ((plan_of self.old).issued + 1)
-            result }
-        ensures others { (self.new.residency ≡ self.old.residency)
-            × ((plan_of self.new).issued
-            ≡ issued_after (plan_of self.old).issued (granted_heap result)) }
-    {
-        if self.journal.next_refusal().is_some() {
-            return None;
-        }
-        let number = self.objects.hold_heap(*desc, size).ok()?;
-        Some(MTLHeap(number))
+/// The answer to a question for a heap: a number, or none where the script or the host refuses it.
+fn answer_heap(
+    objects: &mut Objects,
+    refusal: Option<Refusal>,
+    desc: &HeapDescriptor,
+    size: u64,
+) -> Option<MTLHeap>
+    ensures number { IsNew (held_by objects.old.numbers.slots.items) (granted_heap result) }
+    ensures holds { held_by objects.new.numbers.slots.items
+        ≡ with_granted (held_by objects.old.numbers.slots.items) (granted_heap result)
+        (Heap desc.now size) }
+    ensures answer { IsHeapAnswer refusal (length objects.old.numbers.slots.items + 1) result }
+    ensures issues { length objects.new.numbers.slots.items
+        ≡ asked (length objects.old.numbers.slots.items) (granted_heap result) }
+{
+    if refusal.is_some() {
+        return None;
     }
+    let number = objects.hold_heap(*desc, size).ok()?;
+    Some(MTLHeap(number))
+}
 
-    /// The answer to a question for a set: a number, or a code where there are no sets or the script or the host refuses it.
-    fn answer_set(&mut self) -> Result<MTLResidencySet, i32>
-        ensures number { IsNew (held_of self.old) (granted_set result) }
-        ensures holds { held_of self.new
-            ≡ with_granted (held_of self.old) (granted_set result) (Set [] []) }
-        ensures journal { self.new.journal ≡ self.old.journal }
-        ensures answer { IsSetAnswer (plan_of self.old).residency (planned (plan_of self.old))
-            ((plan_of self.old).issued + 1) result }
-        ensures others { (self.new.residency ≡ self.old.residency)
-            × ((plan_of self.new).issued
-            ≡ issued_after (plan_of self.old).issued (granted_set result)) }
-    {
-        let refusal = self.journal.next_refusal();
-        if self.residency && refusal.is_none() {
-            if let Ok(number) = self.objects.hold_set() {
-                return Ok(MTLResidencySet(number));
-            }
+/// The answer to a question for a set: a number, or a code where there are no sets or the script or the host refuses it.
+fn answer_set(
+    objects: &mut Objects,
+    residency: bool,
+    refusal: Option<Refusal>,
+) -> Result<MTLResidencySet, i32>
+    ensures number { IsNew (held_by objects.old.numbers.slots.items) (granted_set result) }
+    ensures holds { held_by objects.new.numbers.slots.items
+        ≡ with_granted (held_by objects.old.numbers.slots.items) (granted_set result) (Set [] []) }
+    ensures answer { IsSetAnswer residency refusal (length objects.old.numbers.slots.items + 1)
+        result }
+    ensures issues { length objects.new.numbers.slots.items
+        ≡ asked (length objects.old.numbers.slots.items) (granted_set result) }
+{
+    if residency && refusal.is_none() {
+        if let Ok(number) = objects.hold_set() {
+            return Ok(MTLResidencySet(number));
         }
-        Err(code_for_set(refusal))
     }
+    Err(code_for_set(refusal))
 }
 
 /// What a resource of so many bytes takes of a heap.
@@ -171,6 +182,9 @@ fn texture_bytes(desc: &TextureDescriptor) -> u64
 }
 
 impl MetalDevice for SimMetal {
+    ghost use Rattle.gpu_sim_metal.specs.Simulation.{held_of, properties_of, history_of, refused_of, latest_heap_of, plan_of, planned, answered};
+    ghost use Rattle.gpu_sim_metal.specs.SimulationLaws.{no_null as no_null_law};
+
     ghost properties = { properties_of };
 
     ghost held = { held_of };
@@ -216,7 +230,8 @@ impl MetalDevice for SimMetal {
             result }
         ensures plan { plan_of self.new ≡ answered (plan_of self.old) (granted_heap result) }
     {
-        let answer = self.answer_heap(desc, size);
+        let refusal = self.journal.next_refusal();
+        let answer = answer_heap(&mut self.objects, refusal, desc, size);
         self.journal.asked_heap(desc, size, answer);
         answer
     }
@@ -245,7 +260,8 @@ impl MetalDevice for SimMetal {
             ((plan_of self.old).issued + 1) result }
         ensures plan { plan_of self.new ≡ answered (plan_of self.old) (granted_set result) }
     {
-        let answer = self.answer_set();
+        let refusal = self.journal.next_refusal();
+        let answer = answer_set(&mut self.objects, self.residency, refusal);
         self.journal.asked_set(answer);
         answer
     }

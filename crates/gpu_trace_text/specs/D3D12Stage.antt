@@ -9,6 +9,7 @@ use Rattle.gpu_block_session.specs.ErrorNumber.{number_of}
 use Rattle.gpu_block_session.specs.declared.error_number.ErrorNumber.{ErrorNumber}
 use Rattle.gpu_device.specs.D3D12History.{scripted, request_formats, request_clear, request_memory}
 use Rattle.gpu_device.specs.declared.d3d12.device.D3D12Device.{Ghosts}
+use Rattle.gpu_d3d12.specs.Blocks.{HoldsJustLiveBlocks}
 use Rattle.gpu_d3d12.specs.DeviceVersion.{device_of}
 use Rattle.gpu_d3d12.specs.MemoryKinds.{memory_kinds}
 use Rattle.gpu_d3d12.specs.Setup.{tier_fault}
@@ -75,6 +76,12 @@ pub record IsFresh (c : Configured) (s : SessionValue SimD3D12) : Type 0 where
   pub unbound : s.bound ≡ []
   pub no_resources : s.resources ≡ []
 
+-- what holds of a session at any time: the device holds just the live blocks beside all else that it holds, and each question of its
+-- history ended as the `refuse` lines say, with which the history begins, and what was granted has the numbers 1, 2 and so on
+pub record IsSound (s : SessionValue SimD3D12) : Type 0 where
+  pub holds : HoldsJustLiveBlocks s.allocator.setup.tier (beside_of simulated s.allocator) (held_of (device_of s.allocator.device)) s.allocator.slots
+  pub ended : EndAsScripted (history_of (device_of s.allocator.device))
+
 -- the allocator isn't made: the device can't tell its heap tier, or else the host refused memory
 pub record IsNotBegun (c : Configured) (number : ErrorNumber) : Type 0 where
   pub error : AllocationError
@@ -85,7 +92,7 @@ pub record IsNotBegun (c : Configured) (number : ErrorNumber) : Type 0 where
 
 -- `new` makes the allocator, or tells the cause for which it isn't made, and then the trace is closed
 abbrev pub Begins : Configured → Outcome Reply → Stage → Type 0
-Begins c (Replied Made) (Running s) = IsFresh c s
+Begins c (Replied Made) (Running s) = IsFresh c s × IsSound s
 Begins c (Replied (Refused number)) Closed = IsNotBegun c number
 Begins c _ _ = ⊥
 
@@ -95,10 +102,9 @@ Configures c None Bad new = new ≡ Configuring c
 Configures c (Some d) Nothing new = new ≡ Configuring d
 Configures c _ _ _ = ⊥
 
--- a command is served by the session, and answered; each question of the device's history ended as the `refuse` lines say, with which
--- the history begins
+-- a command is served by the session, and answered
 abbrev pub Commands : SessionValue SimD3D12 → Command → Outcome Reply → Stage → Type 0
-Commands s command (Replied (Served reply)) (Running t) = ServesCommand simulated s command reply t × EndAsScripted (history_of (device_of t.allocator.device))
+Commands s command (Replied (Served reply)) (Running t) = ServesCommand simulated s command reply t × IsSound t
 Commands s command _ _ = ⊥
 
 -- what the device was asked is told, and nothing changes

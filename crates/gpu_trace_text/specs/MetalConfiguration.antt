@@ -42,9 +42,13 @@ configured_by c (Sets b) = once c.sets (record c { sets = Some b })
 configured_by c (Residency b) = once c.residency (record c { residency = Some b })
 configured_by c (Shared s) = configured_shared c s
 
--- the device has sets unless a line says no, and refuses the questions that the lines name
+-- the device makes sets unless a line says no
+abbrev pub makes_sets : Configured → Bool
+makes_sets c = unwrap_or c.sets true
+
+-- the device refuses the questions that the lines name
 abbrev pub plan_by : Configured → Plan
-plan_by c = record { residency = unwrap_or c.sets true; script = c.refusals; questions = 0; issued = 0 }
+plan_by c = record { residency = makes_sets c; script = c.refusals; questions = 0; issued = 0 }
 
 -- a set is asked for where a line says yes
 abbrev pub wants_set : Configured → Bool

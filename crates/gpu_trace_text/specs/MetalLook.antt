@@ -1,10 +1,11 @@
 -- What is looked up of the simulated device, beside the session.
 use Rattle.std.specs.Prelude.{◌≡◌, List, Option, Some, None}
 use Rattle.gpu_block_session.specs.declared.error_number.ErrorNumber.TheVariants.{E10}
+use Rattle.gpu_device.specs.MetalHistory.{questions_in}
 use Rattle.gpu_device.specs.Metal.{Held, members_of, committed_of}
 use Rattle.gpu_device.specs.declared.metal.types.MTLHeap.{MTLHeap}
 use Rattle.gpu_device.specs.declared.metal.types.MTLResidencySet.{MTLResidencySet}
-use Rattle.gpu_sim_metal.specs.Simulation.{held_of, plan_of, latest_heap_of}
+use Rattle.gpu_sim_metal.specs.Simulation.{held_of, history_of, latest_heap_of}
 use Rattle.gpu_sim_metal.specs.declared.sim_metal.SimMetal.{SimMetal}
 use Rattle.gpu_run.specs.MetalServed.{SessionValue}
 use Rattle.gpu_trace_text.specs.declared.metal.line.Look.{Look}
@@ -38,4 +39,4 @@ ListsCommitted (Some heaps) reply = reply ≡ Refused E10
 abbrev pub Shows : SessionValue SimMetal → Look → Reply → Type 0
 Shows s looks.Members reply = ListsMembers (members_in (held_of s.allocator.device) s.allocator.setup.residency_set) reply
 Shows s looks.Committed reply = ListsCommitted (committed_in (held_of s.allocator.device) s.allocator.setup.residency_set) reply
-Shows s looks.Asked reply = reply ≡ Asked (plan_of s.allocator.device).questions (latest_heap_of s.allocator.device)
+Shows s looks.Asked reply = reply ≡ Asked (questions_in (history_of s.allocator.device)) (latest_heap_of s.allocator.device)

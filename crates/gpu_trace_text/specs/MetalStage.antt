@@ -6,23 +6,22 @@ use Rattle.gpu_values.specs.declared.error.AllocationError.{AllocationError}
 use Rattle.gpu_values.specs.declared.allocator_debug_settings.AllocatorDebugSettings.{AllocatorDebugSettings}
 use Rattle.gpu_block_session.specs.ErrorNumber.{number_of}
 use Rattle.gpu_block_session.specs.declared.error_number.ErrorNumber.{ErrorNumber}
-use Rattle.gpu_device.specs.MetalHistory.{scripted}
 use Rattle.gpu_device.specs.Metal.{Held}
 use Rattle.gpu_device.specs.declared.metal.device.MetalDevice.{Ghosts}
 use Rattle.gpu_device.specs.declared.metal.types.MTLHeap.{MTLHeap}
 use Rattle.gpu_device.specs.declared.metal.types.MTLResidencySet.{MTLResidencySet}
-use Rattle.gpu_metal.specs.Blocks.{residency_of, left_behind}
+use Rattle.gpu_metal.specs.Blocks.{HoldsJustLiveBlocks, residency_of, left_behind}
 use Rattle.gpu_run.specs.MetalServed.{SessionValue, ServesCommand}
 use Rattle.gpu_run.specs.declared.metal.command.Command.{Command}
 use Rattle.gpu_metal.specs.MemoryKinds.{locations}
 use Rattle.gpu_metal.specs.Residency.{MakesSet}
 use Rattle.gpu_metal.specs.Setup.{IsNotMade}
-use Rattle.gpu_sim_metal.specs.Scripted.{EndAsScripted}
+use Rattle.gpu_sim_metal.specs.Scripted.{EndAsScripted, told}
 use Rattle.gpu_sim_metal.specs.Simulation.{held_of, properties_of, plan_of, history_of, refused_of, latest_heap_of}
 use Rattle.gpu_sim_metal.specs.declared.sim_metal.SimMetal.{SimMetal}
 use Rattle.gpu_block_session.specs.declared.outcome.Outcome.{Outcome}
 use Rattle.gpu_block_session.specs.declared.outcome.Outcome.TheVariants.{Nothing, Replied, Bad}
-use Rattle.gpu_trace_text.specs.MetalConfiguration.{Configured, configured_by, plan_by, sizes_by, wants_set}
+use Rattle.gpu_trace_text.specs.MetalConfiguration.{Configured, configured_by, plan_by, sizes_by, makes_sets, wants_set}
 use Rattle.gpu_trace_text.specs.MetalLine.{Means}
 use Rattle.gpu_trace_text.specs.MetalLook.{Shows, members_in}
 use Rattle.gpu_trace_text.specs.declared.metal.line.Line.{Line}
@@ -46,8 +45,8 @@ pub record IsNewDevice (c : Configured) (d : SimMetal) : Type 0 where
   pub plan : plan_of d ≡ plan_by c
   pub holds_nothing : held_of d ≡ empty
   pub refused_nothing : refused_of d ≡ 0
-  -- the history begins with what the `refuse` lines say
-  pub recorded : history_of d ≡ scripted c.refusals
+  -- the history begins with what the `refuse` and `sets` lines say
+  pub recorded : history_of d ≡ told (makes_sets c) c.refusals
 
 -- a session in which no number stands for anything, over a fresh allocator of that configuration
 pub record IsFresh (c : Configured) (s : SessionValue SimMetal) : Type 0 where
@@ -59,6 +58,12 @@ pub record IsFresh (c : Configured) (s : SessionValue SimMetal) : Type 0 where
   pub empty_types : All (λ slots. slots ≡ []) s.allocator.slots
   pub budgets : All (λ budget. budget ≡ None) s.allocator.budgets
   pub unbound : s.bound ≡ []
+
+-- what holds of a session at any time: the device holds what it held at first, the residency set, where there is one, and just the live
+-- blocks; and each question of its history ended as the `refuse` and `sets` lines say, with which the history begins, and what was
+-- granted has the numbers 1, 2 and so on
+pub record IsSound (s : SessionValue SimMetal) : Type 0 where
+  pub holds : HoldsJustLiveBlocks s.allocator.setup.residency_set (held_of s.allocator.first) (held_of s.allocator.device) s.allocator.slots
   pub ended : EndAsScripted (history_of s.allocator.device)
 
 -- the allocator isn't made, by the cause that is told
@@ -74,7 +79,7 @@ pub record IsNotBegun (c : Configured) (number : ErrorNumber) : Type 0 where
 
 -- `new` makes the allocator, or tells the cause for which it isn't made, and then the trace is closed
 abbrev pub Begins : Configured → Outcome Reply → Stage → Type 0
-Begins c (Replied Made) (Running s) = IsFresh c s
+Begins c (Replied Made) (Running s) = IsFresh c s × IsSound s
 Begins c (Replied (Refused number)) Closed = IsNotBegun c number
 Begins c _ _ = ⊥
 
@@ -84,10 +89,9 @@ Configures c None Bad new = new ≡ Configuring c
 Configures c (Some d) Nothing new = new ≡ Configuring d
 Configures c _ _ _ = ⊥
 
--- a command is served by the session, and answered; each question of the device's history ended as the `refuse` lines say, with which
--- the history begins
+-- a command is served by the session, and answered
 abbrev pub Commands : SessionValue SimMetal → Command → Outcome Reply → Stage → Type 0
-Commands s command (Replied (Served reply)) (Running t) = ServesCommand simulated s command reply t × EndAsScripted (history_of t.allocator.device)
+Commands s command (Replied (Served reply)) (Running t) = ServesCommand simulated s command reply t × IsSound t
 Commands s command _ _ = ⊥
 
 -- what is looked up is answered, and nothing changes

@@ -1,5 +1,5 @@
 -- A trace from its first line on: which line may come, its reply, and the stage that it leaves.
-use Rattle.std.specs.Prelude.{◌≡◌, false, [], length, All, Option, Some, None}
+use Rattle.std.specs.Prelude.{◌≡◌, ◌-◌, ◌^◌, false, [], ◌∷◌, length, All, Option, Some, None}
 use Rattle.std.specs.FinMap.{empty, len as map_len}
 use Rattle.std.specs.Option.{unwrap_or}
 use Rattle.gpu_values.specs.Refusal.{refusal_of, host_out_of_memory}
@@ -7,6 +7,7 @@ use Rattle.gpu_values.specs.declared.error.AllocationError.{AllocationError}
 use Rattle.gpu_values.specs.declared.allocator_debug_settings.AllocatorDebugSettings.{AllocatorDebugSettings}
 use Rattle.gpu_device.specs.VulkanHistory.{scripted}
 use Rattle.gpu_device.specs.declared.vulkan.device.VulkanDevice.{Ghosts}
+use Rattle.gpu_device.specs.declared.vulkan.event.Event.TheVariants.{Limited}
 use Rattle.gpu_sim.specs.Scripted.{EndAsScripted}
 use Rattle.gpu_sim.specs.Simulation.{held_of, properties_of, plan_of, history_of, refused_of, latest_of, written_sim}
 use Rattle.gpu_sim.specs.declared.sim_vulkan.SimVulkan.{SimVulkan}
@@ -66,8 +67,8 @@ pub record IsFresh (c : Configured) (s : SessionValue SimVulkan) : Type 0 where
   pub holds_nothing : held_of s.allocator.first ≡ empty
   pub refused_nothing : refused_of s.allocator.first ≡ 0
   pub not_asked : latest_of s.allocator.first ≡ None
-  -- the history begins with what the `refuse` lines say
-  pub recorded : history_of s.allocator.first ≡ scripted c.refusals
+  -- the history begins with what the `refuse` lines say, and no memory is refused for its size
+  pub recorded : history_of s.allocator.first ≡ Limited (2 ^ 64 - 1) ∷ scripted c.refusals
 
 -- the allocator is made, or refused by the named cause
 abbrev pub Begins : Configured → device_replies.Reply → Stage → Type 0

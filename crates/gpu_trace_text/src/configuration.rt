@@ -33,9 +33,10 @@ impl Model for Configuration {
 }
 
 impl Configuration {
-    ghost use Rattle.std.specs.Prelude.{◌≡◌, [], IfOk, OnErr, Some, None, true, false};
+    ghost use Rattle.std.specs.Prelude.{◌≡◌, ◌-◌, ◌^◌, [], ◌∷◌, IfOk, OnErr, Some, None, true, false};
     ghost use Rattle.std.specs.FinMap.{empty};
     ghost use Rattle.gpu_device.specs.VulkanHistory.{scripted};
+    ghost use Rattle.gpu_device.specs.declared.vulkan.event.Event.TheVariants.{Limited};
     ghost use Rattle.gpu_sim.specs.Simulation.{held_of, plan_of, history_of, refused_of, latest_of};
     ghost use Rattle.gpu_trace_text.specs.Configuration.{nothing_configured, configured_by, plan_by, sizes_by};
 
@@ -100,7 +101,7 @@ impl Configuration {
         ensures held { held_of result ≡ empty }
         ensures refused { refused_of result ≡ 0 }
         ensures latest { latest_of result ≡ None }
-        ensures history { history_of result ≡ scripted self.refusals }
+        ensures history { history_of result ≡ Limited (2 ^ 64 - 1) ∷ scripted self.refusals }
     {
         let Configuration {
             heaps,

@@ -9,6 +9,8 @@ pub enum Event {
     /// The question of this number, the first being 1, is to be refused so. Only a simulated device has such entries: they are its
     /// script, and come before all questions.
     Scripted(u64, Refusal),
+    /// Each question for a residency set is to be refused. Only a simulated device has such an entry, beside its script.
+    WithoutSets,
     /// `makeHeap`: its description, its size in bytes, and its answer.
     AskedHeap(HeapDescriptor, u64, Option<MTLHeap>),
     /// `makeResidencySet`, and its answer.

@@ -2,7 +2,7 @@
 
 ghost use Rattle.std.specs.Prelude.{◌≡◌, [], ◌∷◌};
 ghost use Rattle.gpu_device.specs.MetalHistory.{scripted, refused_in, latest_heap_in};
-ghost use Rattle.gpu_device.specs.declared.metal.event.Event.TheVariants.{Scripted, AskedHeap, AskedSet, ReleasedHeap, Added, Removed, Committed};
+ghost use Rattle.gpu_device.specs.declared.metal.event.Event.TheVariants.{Scripted, WithoutSets, AskedHeap, AskedSet, ReleasedHeap, Added, Removed, Committed};
 
 use crate::history::History;
 use crate::metal::event::Event;
@@ -51,6 +51,13 @@ impl Journal {
         ensures { self.new.history ≡ Scripted question refusal ∷ self.old.history }
     {
         self.history.push(&Event::Scripted(question, refusal));
+    }
+
+    /// Each question for a residency set is to be refused.
+    pub fn without_sets(&mut self)
+        ensures { self.new.history ≡ WithoutSets ∷ self.old.history }
+    {
+        self.history.push(&Event::WithoutSets);
     }
 
     /// How many questions were refused. The count stays at `u64::MAX`.

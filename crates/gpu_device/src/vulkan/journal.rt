@@ -2,7 +2,7 @@
 
 ghost use Rattle.std.specs.Prelude.{◌≡◌, [], ◌∷◌};
 ghost use Rattle.gpu_device.specs.VulkanHistory.{scripted, refused_in, latest_in};
-ghost use Rattle.gpu_device.specs.declared.vulkan.event.Event.TheVariants.{Scripted, AskedMemory, AskedMapping, Unmapped, Freed};
+ghost use Rattle.gpu_device.specs.declared.vulkan.event.Event.TheVariants.{Scripted, Limited, AskedMemory, AskedMapping, Unmapped, Freed};
 
 use crate::history::History;
 use crate::refusal::Refusal;
@@ -51,6 +51,13 @@ impl Journal {
         ensures { self.new.history ≡ Scripted question refusal ∷ self.old.history }
     {
         self.history.push(&Event::Scripted(question, refusal));
+    }
+
+    /// Memory of more bytes is to be refused.
+    pub fn limited(&mut self, limit: u64)
+        ensures { self.new.history ≡ Limited limit ∷ self.old.history }
+    {
+        self.history.push(&Event::Limited(limit));
     }
 
     /// How many questions were refused. The count stays at `u64::MAX`.

@@ -1,10 +1,7 @@
 //! How far a DirectX 12 trace has come.
 
 ghost use Rattle.std.specs.Prelude.{IfOk};
-ghost use Rattle.gpu_d3d12.specs.DeviceVersion.{device_of};
-ghost use Rattle.gpu_sim_d3d12.specs.Scripted.{EndAsScripted};
-ghost use Rattle.gpu_sim_d3d12.specs.Simulation.{history_of};
-ghost use Rattle.gpu_trace_text.specs.D3D12Stage.{Begins, Does, MatchDone};
+ghost use Rattle.gpu_trace_text.specs.D3D12Stage.{Begins, Does, IsSound, MatchDone};
 
 use crate::d3d12::configuration::Configuration;
 use crate::d3d12::line::{Line, read};
@@ -31,6 +28,13 @@ pub enum Stage {
     Closed,
 }
 
+/// What holds of a session at any time. It does nothing.
+fn show_sound(session: &Session<SimD3D12>)
+    ensures { IsSound session.now }
+{
+    session.device().device().ends_as_scripted();
+}
+
 /// Makes the allocator.
 fn make(alloc: Global, configuration: Configuration) -> (Stage, Outcome<Reply>)
     ensures { MatchDone (Begins configuration) result }
@@ -47,10 +51,11 @@ fn make(alloc: Global, configuration: Configuration) -> (Stage, Outcome<Reply>)
         allocation_sizes,
     };
     match Allocator::new(alloc, desc) {
-        Ok(allocator) => (
-            Stage::Running(Session::new(alloc, allocator)),
-            Outcome::Replied(Reply::Made),
-        ),
+        Ok(allocator) => {
+            let session = Session::new(alloc, allocator);
+            show_sound(&session);
+            (Stage::Running(session), Outcome::Replied(Reply::Made))
+        }
         Err((error, _)) => (
             Stage::Closed,
             Outcome::Replied(Reply::Refused(number_of(&error))),
@@ -100,13 +105,6 @@ fn destroy<L: Log>(log: &L, session: Session<SimD3D12>) -> (Stage, Outcome<Reply
     (Stage::Closed, Outcome::Replied(Reply::Held(count)))
 }
 
-/// Each question has ended as the `refuse` lines say. It does nothing.
-fn show_ended(session: &Session<SimD3D12>)
-    ensures { EndAsScripted (history_of (device_of session.now.allocator.device)) }
-{
-    session.device().device().ends_as_scripted();
-}
-
 /// Serves a command.
 fn serve_command<L: Log>(
     log: &L,
@@ -116,7 +114,7 @@ fn serve_command<L: Log>(
     ensures { MatchDone (Does (Stage.Running session) (Line.Asks command.now)) result }
 {
     let reply = session.serve(log, command);
-    show_ended(&session);
+    show_sound(&session);
     (
         Stage::Running(session),
         Outcome::Replied(Reply::Served(reply)),

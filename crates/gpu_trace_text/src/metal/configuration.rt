@@ -2,9 +2,9 @@
 
 ghost use Rattle.std.specs.Prelude.{◌≡◌, [], IfOk, OnErr, Some, None, true, false};
 ghost use Rattle.std.specs.FinMap.{empty};
-ghost use Rattle.gpu_device.specs.MetalHistory.{scripted};
+ghost use Rattle.gpu_sim_metal.specs.Scripted.{told};
 ghost use Rattle.gpu_sim_metal.specs.Simulation.{held_of, plan_of, history_of, refused_of};
-ghost use Rattle.gpu_trace_text.specs.MetalConfiguration.{nothing_configured, configured_by, plan_by, sizes_by, wants_set};
+ghost use Rattle.gpu_trace_text.specs.MetalConfiguration.{nothing_configured, configured_by, plan_by, sizes_by, makes_sets, wants_set};
 
 use crate::device::setting;
 use crate::device::setting::sizes_of;
@@ -109,7 +109,7 @@ impl Configuration {
         ensures plan { plan_of result ≡ plan_by self }
         ensures held { held_of result ≡ empty }
         ensures refused { refused_of result ≡ 0 }
-        ensures history { history_of result ≡ scripted self.refusals }
+        ensures history { history_of result ≡ told (makes_sets self) self.refusals }
     {
         let Configuration {
             sets,

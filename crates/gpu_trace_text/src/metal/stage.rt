@@ -1,9 +1,8 @@
 //! How far a Metal trace has come.
 
 ghost use Rattle.std.specs.Prelude.{◌≡◌, IfOk};
-ghost use Rattle.gpu_sim_metal.specs.Scripted.{EndAsScripted};
-ghost use Rattle.gpu_sim_metal.specs.Simulation.{held_of, history_of};
-ghost use Rattle.gpu_trace_text.specs.MetalStage.{Begins, Does, MatchDone, count_in};
+ghost use Rattle.gpu_sim_metal.specs.Simulation.{held_of};
+ghost use Rattle.gpu_trace_text.specs.MetalStage.{Begins, Does, IsSound, MatchDone, count_in};
 
 use crate::metal::configuration::Configuration;
 use crate::metal::line::{Line, read};
@@ -31,9 +30,9 @@ pub enum Stage {
     Closed,
 }
 
-/// Each question has ended as the `refuse` lines say. It does nothing.
-fn show_ended(session: &Session<SimMetal>)
-    ensures { EndAsScripted (history_of session.now.allocator.device) }
+/// What holds of a session at any time. It does nothing.
+fn show_sound(session: &Session<SimMetal>)
+    ensures { IsSound session.now }
 {
     session.device().ends_as_scripted();
 }
@@ -58,7 +57,7 @@ fn make(alloc: Global, configuration: Configuration) -> (Stage, Outcome<Reply>)
     match Allocator::new(alloc, desc) {
         Ok(allocator) => {
             let session = Session::new(alloc, allocator);
-            show_ended(&session);
+            show_sound(&session);
             (Stage::Running(session), Outcome::Replied(Reply::Made))
         }
         Err((error, _)) => (
@@ -137,7 +136,7 @@ fn serve_command<L: Log>(
     ensures { MatchDone (Does (Stage.Running session) (Line.Asks command.now)) result }
 {
     let reply = session.serve(log, command);
-    show_ended(&session);
+    show_sound(&session);
     (
         Stage::Running(session),
         Outcome::Replied(Reply::Served(reply)),

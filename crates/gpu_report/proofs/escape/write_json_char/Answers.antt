@@ -13,7 +13,7 @@ returns-in_default g c =
     let low : 32 ≤ c.args.c = omega arith in
     λ plain ok.
     has_written_of_eq g.W.Write.write_str_gives c.args.f.now _ _ c.write_char.new.self
-    (sym (escaped-encode Json c.args.c (json_byte-plain c.args.c not_34 not_92 low)))
+    (sym (escaped-encode c.args.c (json_byte-plain c.args.c not_34 not_92 low)))
     (c.write_char.ensures.writes plain ok)
 
 pub returns-in-34 : goal.returns-in-34

@@ -17,6 +17,6 @@ returns g c =
     let s : SessionValue g.row.D.Denot = record { allocator = c.self.inside.allocator; bound = c.self.inside.bound.entries; resources = c.self.inside.resources.entries } in
     let step = c.capacity.ensures.step in
     let reply = module_replies.Pool (answers.Capacity c.capacity.result) in
-    let count = (pool_leaves (basis_of V s.allocator) calls.Capacity step.environment reply (model_of V s.allocator) (model_of V s.allocator) step.step).count in
+    let leaves = pool_leaves (basis_of V s.allocator) calls.Capacity step.environment reply (model_of V s.allocator) (model_of V s.allocator) step.step in
     subst (λ x. IsAnswered V commands.Capacity (replies.Capacity c.capacity.result) x x) c.self.view_is
-    (told V g.met.D.D3D12Device.refused_is model.Capacity reply (replies.Capacity c.capacity.result) commands.Capacity s s refl refl refl refl refl step count (λ a. a) refl)
+    (told V g.met.D.D3D12Device.refused_is model.Capacity reply (replies.Capacity c.capacity.result) commands.Capacity s s refl refl refl refl refl step leaves (λ a. a) refl)

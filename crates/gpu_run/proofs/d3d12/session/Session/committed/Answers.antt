@@ -14,7 +14,7 @@ returns g c =
     let V = g.D.D3D12Device in
     let s : SessionValue g.row.D.Denot = record { allocator = c.self.inside.allocator; bound = c.self.inside.bound.entries; resources = c.self.inside.resources.entries } in
     let step = c.committed.ensures.step in
-    let count = (looked_leaves (basis_of V s.allocator) c.args.memory_type step.environment (module_replies.Statistics c.committed.result) (model_of V s.allocator) (model_of V s.allocator) step.step).count in
+    let leaves = looked_leaves (basis_of V s.allocator) c.args.memory_type step.environment (module_replies.Statistics c.committed.result) (model_of V s.allocator) (model_of V s.allocator) step.step in
     subst (λ x. IsAnswered V (commands.Committed c.args.memory_type) (replies.Committed c.committed.result) x x) c.self.view_is
     (told V g.met.D.D3D12Device.refused_is (model.Statistics c.args.memory_type) (module_replies.Statistics c.committed.result) (replies.Committed c.committed.result)
-    (commands.Committed c.args.memory_type) s s refl refl refl refl refl step count (λ a. a) refl)
+    (commands.Committed c.args.memory_type) s s refl refl refl refl refl step leaves (λ a. a) refl)

@@ -12,7 +12,7 @@ use Rattle.gpu_run.specs.D3D12Session as sessions
 use Rattle.gpu_run.specs.D3D12Served.{SessionValue, session_of, IsAnswered}
 use Rattle.gpu_run.proofs.D3D12Counting.{pool_leaves}
 use Rattle.gpu_run.proofs.D3D12Owning.{owns_freed}
-use Rattle.gpu_run.proofs.D3D12Serving.{quiet, serves_at, constant_by, answered_quietly, answered_by}
+use Rattle.gpu_run.proofs.D3D12Serving.{quiet, serves_at, constant_by, answered_quietly, answered_apart}
 use Rattle.gpu_run.proofs.d3d12.session.Session.free.Goals as goal
 
 pub returns-in-None : goal.returns-in-None
@@ -38,7 +38,7 @@ returns-in-Ok g c =
     let o : sessions.CommandEnvironment = record { room = true; met = step.environment } in
     let leaves = pool_leaves (basis_of V s.allocator) (calls.Free a.memory_type_index (piece_of a)) step.environment (module_replies.Pool answers.Done) (model_of V s.allocator) (model_of V new.allocator) step.step in
     subst (λ x. IsAnswered V (Under c.args.key Free) replies.Done x new) c.self.view_is
-    (answered_by V g.met.D.D3D12Device.refused_is (Under c.args.key Free) replies.Done o s new leaves.count
+    (answered_apart V g.met.D.D3D12Device.refused_is (Under c.args.key Free) replies.Done o s new leaves
     (constant_by V s new c.free.ensures.constant.0 c.free.ensures.constant.1 step.same_version)
     (serves_at (basis_of V s.allocator) (session_of V s) (session_of V new) c.args.key Free o replies.Done (Some a) some
     (record { done = refl; step = step.step; bound = rebound s.bound new.bound c.args.key None c.remove.ensures.updates.0; resources = refl })) c.free.ensures.journal)

@@ -20,9 +20,9 @@ returns-in-Ok g c =
     let step = c.in-Ok.ensures.step in
     let model_reply = module_replies.Pool (answers.LeakTexts (map (λ t. string_bytes t) c.in-Ok.texts.items)) in
     let reply = replies.Leaks (map (λ t. string_bytes t) c.in-Ok.texts.items) in
-    let count = (pool_leaves (basis_of V s.allocator) calls.LeakTexts step.environment model_reply (model_of V s.allocator) (model_of V s.allocator) step.step).count in
+    let leaves = pool_leaves (basis_of V s.allocator) calls.LeakTexts step.environment model_reply (model_of V s.allocator) (model_of V s.allocator) step.step in
     subst (λ x. IsAnswered V commands.Leaks reply x x) c.self.view_is
-    (told V g.met.D.D3D12Device.refused_is model.Leaks model_reply reply commands.Leaks s s refl refl refl refl refl step count (λ a. a) refl)
+    (told V g.met.D.D3D12Device.refused_is model.Leaks model_reply reply commands.Leaks s s refl refl refl refl refl step leaves (λ a. a) refl)
 
 pub returns-in-Err : goal.returns-in-Err
 returns-in-Err g c =
@@ -31,6 +31,6 @@ returns-in-Err g c =
     let step = c.in-Err.ensures.step in
     let model_reply = module_replies.Pool (answers.Error (refusal_of c.in-Err.error)) in
     let reply = replies.Error (refusal_of c.in-Err.error) in
-    let count = (pool_leaves (basis_of V s.allocator) calls.LeakTexts step.environment model_reply (model_of V s.allocator) (model_of V s.allocator) step.step).count in
+    let leaves = pool_leaves (basis_of V s.allocator) calls.LeakTexts step.environment model_reply (model_of V s.allocator) (model_of V s.allocator) step.step in
     subst (λ x. IsAnswered V commands.Leaks reply x x) c.self.view_is
-    (told V g.met.D.D3D12Device.refused_is model.Leaks model_reply reply commands.Leaks s s refl refl refl refl refl step count (λ a. a) refl)
+    (told V g.met.D.D3D12Device.refused_is model.Leaks model_reply reply commands.Leaks s s refl refl refl refl refl step leaves (λ a. a) refl)

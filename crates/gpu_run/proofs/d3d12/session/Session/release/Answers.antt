@@ -1,7 +1,8 @@
 use Rattle.std.proofs.Common.{◌≡◌, ◌∙◌, Some, None, true, refl, ap, sym, subst}
 use Rattle.gpu_pool.specs.Reply as answers
 use Rattle.gpu_d3d12.specs.Reply as module_replies
-use Rattle.gpu_d3d12.specs.State.{basis_of, model_of}
+use Rattle.gpu_d3d12.specs.State.{basis_of, model_of, pool_of}
+use Rattle.gpu_d3d12.specs.Step.{Environment}
 use Rattle.gpu_run.specs.Bindings.{bindings_of}
 use Rattle.gpu_run.proofs.Binding.{rebound}
 use Rattle.gpu_run.specs.D3D12Command.{Release, UnderResource}
@@ -10,7 +11,7 @@ use Rattle.gpu_run.specs.D3D12Session as sessions
 use Rattle.gpu_run.specs.D3D12Served.{SessionValue, session_of, IsAnswered, without}
 use Rattle.gpu_run.proofs.D3D12Growing.{release_shrinks, never_refused}
 use Rattle.gpu_run.proofs.D3D12Owning.{owns_released}
-use Rattle.gpu_run.proofs.D3D12Serving.{quiet, serves_resource_at, constant_by, answered_quietly, answered_by}
+use Rattle.gpu_run.proofs.D3D12Serving.{quiet, serves_resource_at, constant_by, no_reason, answered_quietly, answered_by}
 use Rattle.gpu_run.proofs.d3d12.session.Session.release.Goals as goal
 
 pub returns-in-None : goal.returns-in-None
@@ -38,6 +39,7 @@ returns-in-Ok g c =
     let shrinks = release_shrinks (basis_of V s.allocator) r step.environment (module_replies.Pool answers.Done) (model_of V s.allocator) (model_of V new.allocator) step.step in
     subst (λ x. IsAnswered V (UnderResource c.args.key Release) replies.Done x new) c.self.view_is
     (answered_by V g.met.D.D3D12Device.refused_is (UnderResource c.args.key Release) replies.Done o s new shrinks.count
+    (no_reason V o.met.resource (pool_of new.allocator).source (ap (λ (m : Environment). m.resource) step.step.0))
     (constant_by V s new c.free_resource.ensures.constant.0 c.free_resource.ensures.constant.1 step.same_version)
     (serves_resource_at (basis_of V s.allocator) (session_of V s) (session_of V new) c.args.key Release o replies.Done (Some r) some
     (record { done = refl; step = step.step; resources = rebound s.resources new.resources c.args.key None c.remove.ensures.updates.0; bound = refl }))

@@ -20,9 +20,9 @@ returns-in-Ok g c =
     let step = c.in-Ok.ensures.step in
     let model_reply = module_replies.Pool (answers.Report (report_of c.in-Ok.report)) in
     let reply = replies.Report (report_of c.in-Ok.report) in
-    let count = (pool_leaves (basis_of V s.allocator) calls.Report step.environment model_reply (model_of V s.allocator) (model_of V s.allocator) step.step).count in
+    let leaves = pool_leaves (basis_of V s.allocator) calls.Report step.environment model_reply (model_of V s.allocator) (model_of V s.allocator) step.step in
     subst (λ x. IsAnswered V commands.Report reply x x) c.self.view_is
-    (told V g.met.D.D3D12Device.refused_is model.Report model_reply reply commands.Report s s refl refl refl refl refl step count (λ a. a) refl)
+    (told V g.met.D.D3D12Device.refused_is model.Report model_reply reply commands.Report s s refl refl refl refl refl step leaves (λ a. a) refl)
 
 pub returns-in-Err : goal.returns-in-Err
 returns-in-Err g c =
@@ -31,6 +31,6 @@ returns-in-Err g c =
     let step = c.in-Err.ensures.step in
     let model_reply = module_replies.Pool (answers.Error (refusal_of c.in-Err.error)) in
     let reply = replies.Error (refusal_of c.in-Err.error) in
-    let count = (pool_leaves (basis_of V s.allocator) calls.Report step.environment model_reply (model_of V s.allocator) (model_of V s.allocator) step.step).count in
+    let leaves = pool_leaves (basis_of V s.allocator) calls.Report step.environment model_reply (model_of V s.allocator) (model_of V s.allocator) step.step in
     subst (λ x. IsAnswered V commands.Report reply x x) c.self.view_is
-    (told V g.met.D.D3D12Device.refused_is model.Report model_reply reply commands.Report s s refl refl refl refl refl step count (λ a. a) refl)
+    (told V g.met.D.D3D12Device.refused_is model.Report model_reply reply commands.Report s s refl refl refl refl refl step leaves (λ a. a) refl)

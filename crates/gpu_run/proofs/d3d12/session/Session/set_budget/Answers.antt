@@ -43,10 +43,10 @@ returns g c =
           let step = w.in-Ok.ensures.step in
           let is = module_replies.Pool answers.Done in
           told V g.met.D.D3D12Device.refused_is call is reply command s new (ap (λ r. Some (reply_of r)) (sym w.result-is)) refl refl first setup step
-          (leaves step.environment is (model_of V s.allocator) (model_of V new.allocator) step.step).count (λ a. a) journal
+          (leaves step.environment is (model_of V s.allocator) (model_of V new.allocator) step.step) (λ a. a) journal
       | in-Err w ↦
           let step = w.in-Err.ensures.step in
           let is = module_replies.Pool (answers.Error (refusal_of w.in-Err.error)) in
           told V g.met.D.D3D12Device.refused_is call is reply command s new (ap (λ r. Some (reply_of r)) (sym w.result-is)) refl refl first setup step
-          (leaves step.environment is (model_of V s.allocator) (model_of V new.allocator) step.step).count (λ a. a) journal
+          (leaves step.environment is (model_of V s.allocator) (model_of V new.allocator) step.step) (λ a. a) journal
     ])
