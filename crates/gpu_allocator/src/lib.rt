@@ -6,8 +6,9 @@ pub mod metal;
 pub mod vulkan;
 
 pub use gpu_core::{
-    AllocationError, AllocationReport, AllocationSizes, AllocationType, AllocatorDebugSettings,
-    AllocatorReport, BlockStatistics, DedicatedBlockAllocator, Fault, FreeListAllocator, Gaps,
-    Leak, Leaks, LivePiece, MemoryBlockReport, MemoryLocation, MemoryType, NeedBlock, PendingBlock,
-    Piece, Pieces, Prepared, Request, Result, SubAllocator, TypeLeaks, fmt_bytes, laws, type_laws,
+    AllLeaks, AllocationError, AllocationReport, AllocationSizes, AllocationType,
+    AllocatorDebugSettings, AllocatorReport, BlockStatistics, DedicatedBlockAllocator, Fault,
+    FreeListAllocator, Gaps, Leak, Leaks, LivePiece, MemoryBlockReport, MemoryLocation, MemoryType,
+    MemoryTypes, NeedBlock, PendingBlock, Piece, Pieces, Prepared, Request, Result, SubAllocator,
+    TypeLeaks, fmt_bytes, laws, type_laws,
 };

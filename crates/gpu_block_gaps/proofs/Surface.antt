@@ -18,8 +18,18 @@ use Rattle.gpu_block_gaps.specs.declared.order.Nearby.TheVariants.{Nothing, Same
 use Rattle.gpu_block_gaps.specs.Index.{Before, HasLength}
 use Rattle.gpu_block_gaps.specs.Scan.{place_in}
 use Rattle.gpu_block_gaps.specs.Thread.{Threaded, gap_in, blank}
-use Rattle.gpu_block_gaps.specs.Ordered.{code, key_in, gaps_of, IsShort, AreIndexed, IsIndexed, IsNearby}
+use Rattle.gpu_block_gaps.specs.Ordered.{code, key_in, gaps_of, IsShort, AreIndexed, IsIndexed, IsNearby, keys_beside}
 use Rattle.gpu_block_gaps.proofs.Indexing.{near_in}
+
+other_slot : (a b : ℕ) → a ≢ b → (a == b) ≡ false
+other_slot a b other = grind (arith, nat_tests)
+
+-- ---- numbers of digits
+
+pub one_digit : (n : ℕ) → 0 < n → 1 ≤ digits n
+unfolding digits
+one_digit zero some = absurd (omega arith)
+one_digit (suc n) some = let e = other_slot (suc n) 0 (λ is. omega arith) in rw e (omega arith)
 
 before_by_code : (a b : Gap) → IsShort a → IsShort b → code a < code b → Before a b
 before_by_code a b short_a short_b less = by_length (cases_lt a.length b.length)
@@ -106,11 +116,11 @@ module _ (t : Threaded) (f : Forest) (trees : List (Option Tree)) (are : AreInde
         let e : (get_or (gaps_of t) k d).length ≡ (gap_in t.gaps (get_or t.order k 0)).length = ap (λ (a : Gap). a.length) (gap_at k d within) in
         omega arith
 
-  -- what is compared is a gap's length
-  pub some_gap : (n : ℕ) (near_by : Nearby) → IsNearby (key_in t.gaps) f.scale trees n near_by → near_by ≢ Nothing → 0 < length (gaps_of t)
-  some_gap n Nothing at other = absurd (other refl)
-  some_gap n (Same slot) at other = let is = near_in t f trees are n (class_in f.scale n) at.0 at.1 in let a = is.1 in let b = length-map t.order (gap_in t.gaps) in omega arith
-  some_gap n (Apart bit) at other = let is = near_in t f trees are n (class_in f.scale n) at.0 at.1 in let a = is.1 in let b = length-map t.order (gap_in t.gaps) in omega arith
+  -- the key that is compared is a gap's
+  pub few_keys : (n : ℕ) (near_by : Nearby) → IsNearby (key_in t.gaps) f.scale trees n near_by → keys_beside near_by ≤ digits (length (gaps_of t))
+  few_keys n Nothing at = omega arith
+  few_keys n (Same slot) at = one_digit (length (gaps_of t)) (let is = near_in t f trees are n (class_in f.scale n) at.0 at.1 in let a = is.1 in let b = length-map t.order (gap_in t.gaps) in omega arith)
+  few_keys n (Apart bit) at = one_digit (length (gaps_of t)) (let is = near_in t f trees are n (class_in f.scale n) at.0 at.1 in let a = is.1 in let b = length-map t.order (gap_in t.gaps) in omega arith)
 
   -- ---- the longest gap, in the last slot
 
@@ -168,9 +178,6 @@ module _ (t : Threaded) (f : Forest) (trees : List (Option Tree)) (are : AreInde
 same_slot : (a b : ℕ) → a ≡ b → (a == b) ≡ true
 same_slot a b same = grind (arith, nat_tests)
 
-other_slot : (a b : ℕ) → a ≢ b → (a == b) ≡ false
-other_slot a b other = grind (arith, nat_tests)
-
 pub place_is : (order : List ℕ) (slot k : ℕ) → AllPairs (λ a b. a ≢ b) order → ((s : ℕ) → IsIn s order → 0 < s) → k ≤ length order → slot ≡ get_or order k 0 → place_in slot order ≡ k
 place_is order slot k distinct above le at =
     position_or_len_is (λ x. x == slot) order k 0 le (λ j lt. other_slot (get_or order j 0) slot (before j lt (cases_lt k (length order)))) (λ lt. same_slot (get_or order k 0) slot (sym at))
@@ -199,10 +206,3 @@ slot_past order slot k above at none = by_order (cases_lt k (length order))
     by_order : (k < length order) ⊎ (length order ≤ k) → length order ≤ k
     by_order (inr past) = past
     by_order (inl lt) = absurd (let some = above (get_or order k 0) (k, lt, refl) in omega arith)
-
--- ---- numbers of digits
-
-pub one_digit : (n : ℕ) → 0 < n → 1 ≤ digits n
-unfolding digits
-one_digit zero some = absurd (omega arith)
-one_digit (suc n) some = let e = other_slot (suc n) 0 (λ is. omega arith) in rw e (omega arith)

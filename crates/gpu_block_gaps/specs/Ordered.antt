@@ -43,6 +43,12 @@ IsNearby key scale trees n Nothing = tree_at trees (class_in scale n) ≡ None
 IsNearby key scale trees n (Same slot) = (t : Tree) × (tree_at trees (class_in scale n) ≡ Some t) × (slot ≡ near n t) × (key slot ≡ n)
 IsNearby key scale trees n (Apart bit) = (t : Tree) × (tree_at trees (class_in scale n) ≡ Some t) × IsSplit key t n bit × (bit < 128)
 
+-- how many keys that takes to find: one where the class has any
+abbrev pub keys_beside : Nearby → ℕ
+keys_beside Nothing = 0
+keys_beside (Same slot) = 1
+keys_beside (Apart bit) = 1
+
 -- the length is greater than that of the gap before the place, if there is one
 abbrev pub IsLonger : Threaded → (place size : ℕ) → Type 0
 IsLonger t place size = (k : ℕ) → k + 1 ≡ place → (gap_in t.gaps (slice_index t.order k)).length < size

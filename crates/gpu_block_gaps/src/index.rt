@@ -8,7 +8,7 @@ ghost use Rattle.gpu_block_gaps.specs.Ordered.{gaps_of};
 use crate::class::Scale;
 use crate::forest::Forest;
 use crate::key::Key;
-use crate::order::{Nearby, exchange, key_of, look_near, next_from, put, take};
+use crate::order::{compare_near, exchange, key_of, next_from, put, take};
 use crate::scan::Scan;
 use crate::thread::Thread;
 use gpu_cost::Cost;
@@ -228,11 +228,7 @@ impl GapIndex {
             start: 0,
         };
         let class = self.forest.class(key);
-        let near = look_near(&self.thread, &self.forest, key, class);
-        match near {
-            Nearby::Nothing => {}
-            _ => cost.compare(),
-        }
+        let near = compare_near(&self.thread, &self.forest, key, class, cost);
         Scan::new(
             &self.thread,
             next_from(&self.thread, &self.forest, key, class, near),

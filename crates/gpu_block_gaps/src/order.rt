@@ -7,14 +7,16 @@ ghost use Rattle.gpu_block_gaps.specs.Key.{code_of};
 ghost use Rattle.gpu_block_gaps.specs.Tree.{Tree};
 ghost use Rattle.gpu_block_gaps.specs.Forest.{IsForest, IsWide, KeepsRoom, class_in};
 ghost use Rattle.gpu_block_gaps.specs.Order.{IsIn, IsPlaceIn, Gains};
+ghost use Rattle.gpu_cost.specs.Cost.{ComparesKeys};
 ghost use Rattle.gpu_block_gaps.specs.Index.{Before, HasNoKey, HasKeyAt, IsInserted, IsRemoved, IsReplaced};
-ghost use Rattle.gpu_block_gaps.specs.Ordered.{code, key_in, gaps_of, AreIndexed, IsIndexed, IsNearby, IsLonger, IsShorter};
+ghost use Rattle.gpu_block_gaps.specs.Ordered.{code, key_in, gaps_of, AreIndexed, IsIndexed, IsNearby, keys_beside, IsLonger, IsShorter};
 
 use crate::forest::Forest;
 use crate::index::Gap;
 use crate::key::Key;
 use crate::thread::Thread;
 use crate::tree::Place;
+use gpu_cost::Cost;
 
 /// What the tree of a key's class has: nothing, the slot of that key, or a key that differs first in that bit.
 #[derive(Clone, Copy)]
@@ -34,8 +36,9 @@ pub fn key_of(gap: &Gap) -> Key
     }
 }
 
-/// Looks for a key in the tree of its class.
-pub fn look_near(thread: &Thread, forest: &Forest, key: Key, class: usize) -> Nearby
+/// Looks for a key in the tree of its class. Nothing is counted: it serves where a gap is put in, and is private, so that a search
+/// can look by `compare_near` alone.
+fn look_near(thread: &Thread, forest: &Forest, key: Key, class: usize) -> Nearby
     requires indexed { IsIndexed thread.now forest.now }
     requires class { class ≡ class_in forest.now.scale (code_of key) }
     ensures { (trees : List (Option Tree)) → AreIndexed thread.now forest.now trees
@@ -49,6 +52,28 @@ pub fn look_near(thread: &Thread, forest: &Forest, key: Key, class: usize) -> Ne
         Some(bit) => Nearby::Apart(bit),
         None => Nearby::Same(slot),
     }
+}
+
+/// The same for a search, which counts the one key that is compared, if the class has any.
+#[inline(always)]
+pub fn compare_near(
+    thread: &Thread,
+    forest: &Forest,
+    key: Key,
+    class: usize,
+    cost: &mut Cost,
+) -> Nearby
+    requires indexed { IsIndexed thread.now forest.now }
+    requires class { class ≡ class_in forest.now.scale (code_of key) }
+    ensures near { (trees : List (Option Tree)) → AreIndexed thread.now forest.now trees
+        → IsNearby (key_in thread.now.gaps) forest.now.scale trees (code_of key) result }
+    ensures counted { ComparesKeys (keys_beside result) cost.old cost.new }
+{
+    let nearby = look_near(thread, forest, key, class);
+    if !matches!(nearby, Nearby::Nothing) {
+        cost.compare();
+    }
+    nearby
 }
 
 /// The slot of the first gap from a key on, 0 where there is none.

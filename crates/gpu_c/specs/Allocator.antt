@@ -73,6 +73,7 @@ pub record IsFresh (types : List DeviceMemoryType) (heaps : List DeviceHeap) (s 
   pub types_there : length new.slots ≡ length types
   pub empty : All (λ slots. slots ≡ []) new.slots
   pub unbounded : All (λ b. b ≡ None) new.budgets
+  pub bounds_there : length new.budgets ≡ length types
   pub closed : new.awaited ≡ None
 
 -- ---- statuses

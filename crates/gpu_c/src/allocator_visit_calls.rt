@@ -185,6 +185,7 @@ pub extern "C" fn pilhangko_raw_allocator_report(
     ensures reported { result ≡ status.ok
         → IsSomeAnd allocator.old.value
         (λ s. ShowsText (report_json (whole_report s.slots)) text.old text.new whole.new) }
+    ensures host_out_of_memory { result ≡ status.host_out_of_memory → IsSome allocator.old.value }
     ensures no_handle { (result ≡ status.no_handle) ↔ (allocator.old.value ≡ None) }
     ensures statuses { IsOneOf result (status.ok ∷ status.no_handle ∷ status.host_out_of_memory
         ∷ []) }

@@ -1,7 +1,7 @@
 //! Virtual blocks for C. A handle begins zeroed; create fills it and destroy leaves it zeroed. Each call on an empty handle returns
 //! `NO_HANDLE`, and any status but `OK` leaves everything as it was.
 
-ghost use Rattle.std.specs.Prelude.{◌≡◌, ◌≢◌, ◌↔◌, [], ◌∷◌, Some, None, IsSomeAnd, IsUtf8};
+ghost use Rattle.std.specs.Prelude.{◌≡◌, ◌≢◌, ◌↔◌, [], ◌∷◌, Some, None, IsSome, IsSomeAnd, IsUtf8};
 ghost use Rattle.gpu_values.specs.declared.error.AllocationError.TheVariants.{OutOfMemory, HostOutOfMemory};
 ghost use Rattle.gpu_block.specs.Block.{extents_of};
 ghost use Rattle.gpu_c.specs.Handle.{Changes};
@@ -172,6 +172,7 @@ pub extern "C" fn pilhangko_raw_virtual_block_clear(
 ) -> u32
     ensures emptied { result ≡ status.ok
         → Changes block.old.value block.new.value (λ old new. new ≡ cleared old) }
+    ensures host_out_of_memory { result ≡ status.host_out_of_memory → IsSome block.old.value }
     ensures no_handle { (result ≡ status.no_handle) ↔ (block.old.value ≡ None) }
     ensures statuses { IsOneOf result (status.ok ∷ status.no_handle ∷ status.host_out_of_memory
         ∷ []) }

@@ -27,6 +27,12 @@ pub record Compares (n : ℕ) (old new : Cost) : Type 0 where
   pub tests : new.tests ≡ old.tests
   pub lookups : new.lookups ≡ old.lookups
 
+-- just so many lengths were compared, and nothing else is counted
+pub record ComparesKeys (n : ℕ) (old new : Cost) : Type 0 where
+  pub comparisons : new.comparisons ≡ old.comparisons + n
+  pub tests : new.tests ≡ old.tests
+  pub lookups : new.lookups ≡ old.lookups
+
 -- just so many gaps were tested, and nothing else is counted
 pub record Tests (n : ℕ) (old new : Cost) : Type 0 where
   pub comparisons : new.comparisons ≡ old.comparisons

@@ -1,16 +1,15 @@
-use Rattle.std.proofs.Common.{◌≡◌, ◌<◌, ◌≤◌, ◌+◌, ◌*◌, ◌^◌, ℕ, List, length, get_or, ap, subst, ◌∙◌, arith}
+use Rattle.std.proofs.Common.{◌≡◌, ◌<◌, ◌≤◌, ◌+◌, ◌*◌, ◌^◌, ℕ, List, length, get_or, ap, subst, arith}
 use Rattle.std.specs.List.{AllPairs}
 use Rattle.std.proofs.lemmas.List.{length-map}
 use Rattle.gpu_block_gaps.specs.Order.{IsPlaceIn}
 use Rattle.gpu_block_gaps.proofs.Positions.{place_there}
-use Rattle.gpu_cost.specs.declared.cost.Cost.{Cost}
 use Rattle.gpu_cost.specs.Cost.{digits}
 use Rattle.gpu_block_gaps.specs.declared.index.Gap.{Gap}
 use Rattle.gpu_block_gaps.specs.Index.{Before, Index}
 use Rattle.gpu_block_gaps.specs.Thread.{gap_in}
 use Rattle.gpu_block_gaps.specs.Ordered.{key_in, gaps_of}
-use Rattle.gpu_block_gaps.proofs.Surface.{gaps_sorted, shorter_below, longer_from, some_gap, one_digit}
-use Rattle.gpu_block_gaps.proofs.index.GapIndex.first_at_least.Goals.{in-Nothing, in_default, After-next_from, After-new}
+use Rattle.gpu_block_gaps.proofs.Surface.{gaps_sorted, shorter_below, longer_from, few_keys}
+use Rattle.gpu_block_gaps.proofs.index.GapIndex.first_at_least.Goals.{After-next_from, After-new}
 use Rattle.gpu_block_gaps.proofs.index.GapIndex.first_at_least.Goals as goal
 
 pub new-requires : goal.new-requires
@@ -51,22 +50,14 @@ pub returns-clause-ordered : goal.returns-clause-ordered
 returns-clause-ordered c = subst (λ (gs : List Gap). AllPairs Before gs) (ap (λ (x : Index). x.gaps) c.self.view_is) (gaps_sorted c.self.inside.thread c.self.inside.forest c.self.invariant.0.0 c.self.invariant.0.1)
 
 pub returns-clause-counted : goal.returns-clause-counted
-returns-clause-counted c = elim c.match-near.branch [
-  | in-Nothing w ↦ (
-      let is = w.cost-is in
-      let comparisons = ap (λ (x : Cost). x.comparisons) is in
-      record { rises = omega arith; to = omega arith; tests = ap (λ (x : Cost). x.tests) is; lookups = ap (λ (x : Cost). x.lookups) is })
-  | in_default w ↦ (
-      let is = w.cost-is in
-      let comparisons = ap (λ (x : Cost). x.comparisons) is ∙ w.compare.ensures.comparisons in
-      let t = c.self.inside.thread in
-      let some = some_gap t c.self.inside.forest c.self.invariant.0.0 c.self.invariant.0.1 (c.args.size * 2 ^ 64 + 0) c.look_near-near.result (c.look_near-near.ensures c.self.invariant.0.0 c.self.invariant.0.1) w.in_default.not-Nothing in
-      let one = one_digit (length (gaps_of t)) some in
-      let seen : digits (length (gaps_of t)) ≡ digits (length c.args.self.now.gaps) = ap (λ (x : Index). digits (length x.gaps)) c.self.view_is in
-      record {
-        rises = omega arith;
-        to = omega arith;
-        tests = ap (λ (x : Cost). x.tests) is ∙ w.compare.ensures.tests;
-        lookups = ap (λ (x : Cost). x.lookups) is ∙ w.compare.ensures.lookups;
-      })
-]
+returns-clause-counted c =
+    let t = c.self.inside.thread in
+    let few = few_keys t c.self.inside.forest c.self.invariant.0.0 c.self.invariant.0.1 (c.args.size * 2 ^ 64 + 0) c.compare_near-near.result (c.compare_near-near.ensures.near c.self.invariant.0.0 c.self.invariant.0.1) in
+    let seen : digits (length (gaps_of t)) ≡ digits (length c.args.self.now.gaps) = ap (λ (x : Index). digits (length x.gaps)) c.self.view_is in
+    let counted = c.compare_near-near.ensures.counted.comparisons in
+    record {
+      rises = omega arith;
+      to = omega arith;
+      tests = c.compare_near-near.ensures.counted.tests;
+      lookups = c.compare_near-near.ensures.counted.lookups;
+    }
