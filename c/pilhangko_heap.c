@@ -5,6 +5,13 @@
 #include <stddef.h>
 #include <stdlib.h>
 
+/* C's calling convention, by which the archive calls: on Windows a compiler's default may be another one. */
+#ifdef _WIN32
+#define HEAP_CALL __cdecl
+#else
+#define HEAP_CALL
+#endif
+
 #ifdef __cplusplus
 extern "C" {
 #endif
@@ -15,9 +22,9 @@ struct pilhangko_tried {
     void *memory;
 };
 
-struct pilhangko_tried rattle_alloc(size_t size, size_t alignment);
-struct pilhangko_tried rattle_realloc(void *memory, size_t kept, size_t size, size_t alignment);
-void rattle_dealloc(void *memory);
+struct pilhangko_tried HEAP_CALL rattle_alloc(size_t size, size_t alignment);
+struct pilhangko_tried HEAP_CALL rattle_realloc(void *memory, size_t kept, size_t size, size_t alignment);
+void HEAP_CALL rattle_dealloc(void *memory);
 
 static struct pilhangko_tried tried(void *memory) {
     static char nothing;
@@ -26,17 +33,17 @@ static struct pilhangko_tried tried(void *memory) {
 }
 
 /* malloc(0) may answer NULL with no refusal: ask for the alignment then, which is 1 at least. */
-struct pilhangko_tried rattle_alloc(size_t size, size_t alignment) {
+struct pilhangko_tried HEAP_CALL rattle_alloc(size_t size, size_t alignment) {
     return tried(malloc(size ? size : alignment));
 }
 
 /* realloc keeps the first bytes, and leaves the memory as it was where it refuses. */
-struct pilhangko_tried rattle_realloc(void *memory, size_t kept, size_t size, size_t alignment) {
+struct pilhangko_tried HEAP_CALL rattle_realloc(void *memory, size_t kept, size_t size, size_t alignment) {
     (void)kept;
     return tried(realloc(memory, size ? size : alignment));
 }
 
-void rattle_dealloc(void *memory) {
+void HEAP_CALL rattle_dealloc(void *memory) {
     free(memory);
 }
 

@@ -4,6 +4,11 @@
 #include <inttypes.h>
 #include <stdio.h>
 #include <stdlib.h>
+#if defined(__cplusplus)
+#include <atomic>
+#elif defined(_MSC_VER)
+#include <intrin.h>
+#endif
 
 /* ---- records ---- */
 
@@ -18,6 +23,7 @@ struct table {
 /* A block of memory that the driver gave. The allocator knows it by its index among the records. */
 struct block {
     uint32_t next_spare;
+    uint32_t next_in_chain; /* the index of the next block whose memory hashes alike, or NO_RECORD */
     uint32_t memory_type;
     VkDeviceMemory memory; /* VK_NULL_HANDLE of a spare record */
     void *mapped;          /* the whole block, as long as it lives; NULL where the host can't see it */
@@ -39,15 +45,18 @@ struct text {
 
 /* The capture: what stands before `new`, and what stands behind it. */
 struct capture {
-    uint32_t end; /* PILHANGKO_VULKAN_CAPTURE_WHOLE while it goes on; PILHANGKO_VULKAN_CAPTURE_NONE where there is none */
+    pilhangko_vulkan_capture_end end; /* .._WHOLE while it goes on; .._NONE where there is none */
     pilhangko_vulkan_write write;
     void *user;
     struct text device, calls;
-    uint64_t questions; /* those of the calls that were written */
+    uint64_t questions;                            /* those of the calls that were written */
+    pilhangko_budget budgets[VK_MAX_MEMORY_TYPES]; /* those that were written */
+    bool has_new_budgets;                          /* whether others may have been set since */
 };
 
 struct binding {
     pilhangko_allocator allocator;
+    uint64_t number; /* no other binding of the process has it, nor had */
     pilhangko_vulkan_functions functions;
     VkAllocationCallbacks callbacks;
     bool has_callbacks;
@@ -58,6 +67,8 @@ struct binding {
     VkPhysicalDeviceMemoryProperties properties;
     VkDeviceSize atom; /* nonCoherentAtomSize */
     struct table blocks, live;
+    uint32_t *chains;                       /* the index of the first block of each chain, or NO_RECORD */
+    uint32_t chain_count;                   /* a power of two, or 0 */
     VkDeviceSize held[VK_MAX_MEMORY_TYPES]; /* the sum of the blocks' sizes */
     uint64_t last_serial, live_count;
     struct capture capture;
@@ -114,7 +125,7 @@ static bool has_spare(struct table *table) {
 }
 
 /* The index of a record that was spare. */
-static uint32_t take_spare(struct table *table) {
+static uint32_t spare_record(struct table *table) {
     const uint32_t index = table->spare;
     table->spare = *(uint32_t *)record_of(table, index);
     return index;
@@ -124,10 +135,52 @@ static struct block *block_at(const struct binding *b, uint64_t index) {
     return (struct block *)record_of(&b->blocks, (uint32_t)index);
 }
 
+/* The place that has the index of the first block of a memory's chain. */
+static uint32_t *chain_of(const struct binding *b, VkDeviceMemory memory) {
+    const uint64_t hash = (uint64_t)memory * UINT64_C(0x9E3779B97F4A7C15);
+    return &b->chains[hash >> 32 & (b->chain_count - 1)];
+}
+
+static void link_block(struct binding *b, uint32_t index) {
+    struct block *block = block_at(b, index);
+    uint32_t *first = chain_of(b, block->memory);
+    block->next_in_chain = *first;
+    *first = index;
+}
+
+static void unlink_block(struct binding *b, uint32_t index) {
+    const struct block *block = block_at(b, index);
+    uint32_t *at = chain_of(b, block->memory);
+    while (*at != index) at = &block_at(b, *at)->next_in_chain;
+    *at = block->next_in_chain;
+}
+
+/* Whether a block has that memory: the driver may not give it twice. */
+static bool is_held(const struct binding *b, VkDeviceMemory memory) {
+    uint32_t index = *chain_of(b, memory);
+    while (index != NO_RECORD && block_at(b, index)->memory != memory) index = block_at(b, index)->next_in_chain;
+    return index != NO_RECORD;
+}
+
+/* Whether there are as many chains as there is room for blocks; makes them where there are fewer. */
+static bool has_chains(struct binding *b) {
+    uint32_t *chains;
+    if (b->chain_count == b->blocks.room) return true;
+    chains = (uint32_t *)malloc(b->blocks.room * sizeof *chains);
+    if (!chains) return false;
+    free(b->chains);
+    b->chains = chains;
+    b->chain_count = b->blocks.room;
+    for (uint32_t i = 0; i < b->chain_count; i++) chains[i] = NO_RECORD;
+    for (uint32_t i = 0; i < b->blocks.count; i++)
+        if (block_at(b, i)->memory != VK_NULL_HANDLE) link_block(b, i);
+    return true;
+}
+
 /* The record of an allocation, or NULL where it isn't live or another binding's. */
 static const struct live *find(const struct binding *b, const pilhangko_vulkan_allocation *allocation) {
     const struct live *it;
-    if (allocation->owner != b || allocation->serial == 0 || allocation->index >= b->live.count) return NULL;
+    if (allocation->owner != b->number || allocation->serial == 0 || allocation->index >= b->live.count) return NULL;
     it = (const struct live *)record_of(&b->live, allocation->index);
     return it->serial == allocation->serial ? it : NULL;
 }
@@ -222,7 +275,7 @@ static const char *trace_name(const char *name, char *word) {
     return word;
 }
 
-static const char *trace_location(uint32_t location) {
+static const char *trace_location(pilhangko_location location) {
     switch (location) {
     case PILHANGKO_LOCATION_GPU_ONLY: return "GpuOnly";
     case PILHANGKO_LOCATION_CPU_TO_GPU: return "CpuToGpu";
@@ -248,6 +301,27 @@ static void trace_refusals(const struct capture *c, const struct asked *asked, c
     }
 }
 
+static void capture_budget(struct binding *b, uint32_t memory_type, const pilhangko_budget *budget) {
+    char line[LINE_ROOM];
+    if (budget->exists) snprintf(line, sizeof line, "budget %" PRIu32 " %" PRIu64 "\n", memory_type, budget->bytes);
+    else snprintf(line, sizeof line, "budget %" PRIu32 " none\n", memory_type);
+    capture_lines(&b->capture, "", line);
+    b->capture.budgets[memory_type] = *budget;
+}
+
+/* The bounds as they are now, where they are others than those that were written last. Bounds count where something is allocated: one that
+ * was changed again before that isn't written. */
+static void capture_new_budgets(struct binding *b) {
+    if (!b->capture.has_new_budgets) return;
+    b->capture.has_new_budgets = false;
+    for (uint32_t i = 0; i < b->properties.memoryTypeCount && is_captured(b); i++) {
+        const pilhangko_budget *last = &b->capture.budgets[i];
+        pilhangko_budget now;
+        if (pilhangko_allocator_budget(&b->allocator, i, &now) != PILHANGKO_OK) return;
+        if (now.exists != last->exists || now.bytes != last->bytes) capture_budget(b, i, &now);
+    }
+}
+
 /* The call `allocate`: what it asked for, and what the driver refused. Where host memory was lacking, nothing has changed, and in a replay
  * nothing is lacking; an invalid request may have words that no trace has. An allocation is called by its serial number; one that was
  * refused by the next one's. */
@@ -255,6 +329,8 @@ static void capture_allocation(
     struct binding *b, const pilhangko_allocator_request *request, const char *name, pilhangko_status status, const struct asked *asked) {
     char lines[LINE_ROOM], refusals[LINE_ROOM], scheme[32], word[NAME_ROOM + 1];
     if (!is_captured(b) || status == PILHANGKO_HOST_OUT_OF_MEMORY || status == PILHANGKO_INVALID) return;
+    capture_new_budgets(b);
+    if (!is_captured(b)) return;
     trace_scheme(request, scheme, sizeof scheme);
     trace_refusals(&b->capture, asked, refusals, sizeof refusals);
     snprintf(lines, sizeof lines, "alloc %" PRIu64 " %" PRIu64 " %" PRIu64 " %" PRIu32 " %s %s %s %s\n", b->last_serial + 1, request->size,
@@ -278,15 +354,7 @@ static void capture_rename(struct binding *b, uint64_t serial, const char *name)
     capture_lines(&b->capture, "", line);
 }
 
-static void capture_budget(struct binding *b, uint32_t memory_type, bool has_budget, VkDeviceSize bytes) {
-    char line[LINE_ROOM];
-    if (!is_captured(b)) return;
-    if (has_budget) snprintf(line, sizeof line, "budget %" PRIu32 " %" PRIu64 "\n", memory_type, (uint64_t)bytes);
-    else snprintf(line, sizeof line, "budget %" PRIu32 " none\n", memory_type);
-    capture_lines(&b->capture, "", line);
-}
-
-static const char *remark_of(uint32_t end) {
+static const char *remark_of(pilhangko_vulkan_capture_end end) {
     switch (end) {
     case PILHANGKO_VULKAN_CAPTURE_TOO_LONG: return "# the capture ends here: the next call would make the trace too long\n";
     case PILHANGKO_VULKAN_CAPTURE_NO_HOST_MEMORY: return "# the capture ends here: no host memory for the next call\n";
@@ -302,9 +370,12 @@ static void write_bytes(const struct capture *c, pilhangko_vulkan_capture *told,
 }
 
 /* Writes the capture with a last line, and forgets it. Without a device there is only the remark. */
-static pilhangko_vulkan_capture end_capture(struct capture *c, const char *last_line) {
-    const char *remark = remark_of(c->end);
+static pilhangko_vulkan_capture end_capture(struct binding *b, const char *last_line) {
+    struct capture *c = &b->capture;
+    const char *remark;
     pilhangko_vulkan_capture told;
+    if (is_captured(b)) capture_new_budgets(b);
+    remark = remark_of(c->end);
     told.end = c->end;
     told.bytes = 0;
     if (c->end == PILHANGKO_VULKAN_CAPTURE_NONE) return told;
@@ -324,30 +395,25 @@ static pilhangko_vulkan_capture end_capture(struct capture *c, const char *last_
 
 /* Keeps memory in a spare record; returns its number. */
 static uint64_t keep_block(struct binding *b, VkDeviceMemory memory, void *mapped, const pilhangko_allocator_question *question) {
-    const uint32_t index = take_spare(&b->blocks);
+    const uint32_t index = spare_record(&b->blocks);
     struct block *block = block_at(b, index);
     block->memory_type = question->memory_type;
     block->memory = memory;
     block->mapped = mapped;
     block->size = question->size;
     b->held[block->memory_type] += block->size;
+    link_block(b, index);
     return index;
 }
 
 /* Gives a block back to the driver. */
 static void give_back(struct binding *b, uint32_t index) {
     const struct block *block = block_at(b, index);
+    unlink_block(b, index);
     if (block->mapped) b->functions.vkUnmapMemory(b->device, block->memory);
     b->functions.vkFreeMemory(b->device, block->memory, callbacks_of(b));
     b->held[block->memory_type] -= block->size;
     make_spare(&b->blocks, index);
-}
-
-/* Whether a block has that memory: the driver may not give it twice. */
-static bool is_held(const struct binding *b, VkDeviceMemory memory) {
-    uint32_t i = 0;
-    while (i < b->blocks.count && block_at(b, i)->memory != memory) i++;
-    return i < b->blocks.count;
 }
 
 /* ---- asking the driver ---- */
@@ -397,8 +463,7 @@ static pilhangko_status memory_refused(
 static pilhangko_status mapping_refused(
     struct binding *b, struct asked *asked, VkResult driver, VkDeviceMemory memory, pilhangko_allocator_progress *progress) {
     bool has_code = driver != VK_SUCCESS;
-    if (!has_code) b->functions.vkUnmapMemory(b->device, memory); /* to the driver it is mapped, though nobody knows where */
-    b->functions.vkFreeMemory(b->device, memory, callbacks_of(b));
+    b->functions.vkFreeMemory(b->device, memory, callbacks_of(b)); /* unmaps it too, where a null address is a mapping to the driver */
     note_refusal(asked, !has_code, driver, driver);
     return pilhangko_allocator_mapping_refused(&b->allocator, has_code, driver, progress);
 }
@@ -449,7 +514,7 @@ static pilhangko_status asks_for(const struct binding *b, const pilhangko_vulkan
 /* Keeps a piece as a live allocation, and tells it. */
 static void keep_allocation(
     struct binding *b, const pilhangko_allocator_piece *piece, bool dedicated, pilhangko_vulkan_allocation *allocation) {
-    const uint32_t index = take_spare(&b->live);
+    const uint32_t index = spare_record(&b->live);
     struct live *it = (struct live *)record_of(&b->live, index);
     it->serial = ++b->last_serial;
     it->piece = *piece;
@@ -459,7 +524,7 @@ static void keep_allocation(
     allocation->size = piece->piece.size;
     allocation->dedicated = dedicated;
     allocation->piece = *piece;
-    allocation->owner = b;
+    allocation->owner = b->number;
     allocation->serial = it->serial;
     allocation->index = index;
 }
@@ -472,7 +537,7 @@ static pilhangko_vulkan_result allocate(
     pilhangko_status status = asks_for(b, request, &asks);
     if (status != PILHANGKO_OK) return undriven(status);
     /* before the driver is asked, so that nothing can fail behind its grant */
-    if (!has_spare(&b->blocks) || !has_spare(&b->live)) return undriven(PILHANGKO_HOST_OUT_OF_MEMORY);
+    if (!has_spare(&b->blocks) || !has_chains(b) || !has_spare(&b->live)) return undriven(PILHANGKO_HOST_OUT_OF_MEMORY);
     memset(&asked, 0, sizeof asked);
     status = pilhangko_allocator_begin(&b->allocator, &asks, request->name, &progress);
     while (status == PILHANGKO_OK && progress.kind == PILHANGKO_PROGRESS_QUESTION) status = ask(b, &asked, &progress);
@@ -662,7 +727,7 @@ static VkMemoryDedicatedRequirements requirements_of(const struct binding *b, co
 
 /* Allocates memory for a resource: its own where that is asked for or the driver requires it, and where the driver prefers it and there is
  * such memory. */
-static pilhangko_vulkan_result allocate_for(struct binding *b, const struct resource *r, uint32_t kind,
+static pilhangko_vulkan_result allocate_for(struct binding *b, const struct resource *r, pilhangko_kind kind,
     const pilhangko_vulkan_placement *placement, pilhangko_vulkan_allocation *allocation) {
     pilhangko_vulkan_request request;
     pilhangko_vulkan_result first, second;
@@ -687,7 +752,7 @@ static pilhangko_vulkan_result allocate_for(struct binding *b, const struct reso
 }
 
 /* Gives a resource memory and binds it; destroys it where that fails. */
-static pilhangko_vulkan_result place(struct binding *b, const struct resource *r, uint32_t kind,
+static pilhangko_vulkan_result place(struct binding *b, const struct resource *r, pilhangko_kind kind,
     const pilhangko_vulkan_placement *placement, pilhangko_vulkan_allocation *allocation) {
     pilhangko_vulkan_allocation made;
     const pilhangko_vulkan_result result = allocate_for(b, r, kind, placement, &made);
@@ -798,8 +863,8 @@ pilhangko_status PILHANGKO_CALL pilhangko_vulkan_read_heap(const pilhangko_vulka
 }
 
 static pilhangko_status set_budget(struct binding *b, uint32_t memory_type, bool has_budget, VkDeviceSize bytes) {
-    pilhangko_status status = pilhangko_allocator_set_budget(&b->allocator, memory_type, has_budget, bytes);
-    if (status == PILHANGKO_OK) capture_budget(b, memory_type, has_budget, bytes);
+    const pilhangko_status status = pilhangko_allocator_set_budget(&b->allocator, memory_type, has_budget, bytes);
+    if (status == PILHANGKO_OK) b->capture.has_new_budgets = true;
     return status;
 }
 
@@ -883,6 +948,20 @@ pilhangko_status PILHANGKO_CALL pilhangko_vulkan_load(pilhangko_vulkan_functions
     return PILHANGKO_OK;
 }
 
+/* 1, 2, .. for the process's bindings, on whichever threads they are made. */
+static uint64_t next_number(void) {
+#if defined(__cplusplus)
+    static std::atomic<uint64_t> last(0);
+    return ++last;
+#elif defined(_MSC_VER)
+    static volatile __int64 last;
+    return (uint64_t)_InterlockedIncrement64(&last);
+#else
+    static _Atomic uint64_t last;
+    return ++last;
+#endif
+}
+
 static VkDeviceSize or_else(VkDeviceSize size, VkDeviceSize otherwise) {
     return size ? size : otherwise;
 }
@@ -903,7 +982,7 @@ static pilhangko_status create_allocator(struct binding *b, const pilhangko_allo
     pilhangko_device_memory_type types[VK_MAX_MEMORY_TYPES];
     pilhangko_device_heap heaps[VK_MAX_MEMORY_HEAPS];
     if (p->memoryTypeCount > VK_MAX_MEMORY_TYPES) return PILHANGKO_TOO_MANY_TYPES;
-    if (p->memoryHeapCount > VK_MAX_MEMORY_HEAPS) return PILHANGKO_INVALID_DEVICE;
+    if (p->memoryHeapCount > VK_MAX_MEMORY_HEAPS) return PILHANGKO_VULKAN_TOO_MANY_HEAPS;
     for (uint32_t i = 0; i < p->memoryTypeCount; i++) {
         types[i].flags = p->memoryTypes[i].propertyFlags;
         types[i].heap = p->memoryTypes[i].heapIndex;
@@ -915,8 +994,9 @@ static pilhangko_status create_allocator(struct binding *b, const pilhangko_allo
     return pilhangko_allocator_create(&b->allocator, types, p->memoryTypeCount, heaps, p->memoryHeapCount, settings);
 }
 
-static void take_settings(struct binding *b, const pilhangko_vulkan_settings *settings) {
+static void keep_settings(struct binding *b, const pilhangko_vulkan_settings *settings) {
     memset(b, 0, sizeof *b);
+    b->number = next_number();
     b->functions = *settings->functions;
     b->has_callbacks = settings->allocation_callbacks != NULL;
     if (b->has_callbacks) b->callbacks = *settings->allocation_callbacks;
@@ -937,13 +1017,13 @@ static pilhangko_status begin_binding(struct binding *b, const pilhangko_vulkan_
     VkPhysicalDeviceProperties device;
     pilhangko_allocator_settings s;
     pilhangko_status status;
-    take_settings(b, settings);
+    keep_settings(b, settings);
     memset(&device, 0, sizeof device);
     b->functions.vkGetPhysicalDeviceProperties(b->physical_device, &device);
     b->functions.vkGetPhysicalDeviceMemoryProperties(b->physical_device, &b->properties);
     b->atom = device.limits.nonCoherentAtomSize;
     s = allocator_settings(settings, device.limits.bufferImageGranularity);
-    if (!is_power_of_two(b->atom)) return PILHANGKO_INVALID_DEVICE;
+    if (!is_power_of_two(b->atom)) return PILHANGKO_VULKAN_INVALID_ATOM_SIZE;
     status = create_allocator(b, &s);
     if (status == PILHANGKO_OK && is_captured(b)) capture_device(b, &s);
     return status;
@@ -971,7 +1051,7 @@ pilhangko_status PILHANGKO_CALL pilhangko_vulkan_end_capture(pilhangko_vulkan *v
     if (!vulkan || !capture) return PILHANGKO_NULL_POINTER;
     if (!vulkan->opaque) return PILHANGKO_NO_HANDLE;
     if (binding_of(vulkan)->capture.end == PILHANGKO_VULKAN_CAPTURE_NONE) return PILHANGKO_VULKAN_NO_CAPTURE;
-    *capture = end_capture(&binding_of(vulkan)->capture, "");
+    *capture = end_capture(binding_of(vulkan), "");
     return PILHANGKO_OK;
 }
 
@@ -982,10 +1062,11 @@ pilhangko_status PILHANGKO_CALL pilhangko_vulkan_destroy(pilhangko_vulkan *vulka
     b = binding_of(vulkan);
     if (!b) return PILHANGKO_NO_HANDLE;
     told.leaks = b->live_count;
-    told.capture = end_capture(&b->capture, "destroy\n");
+    told.capture = end_capture(b, "destroy\n");
     for (uint32_t i = 0; i < b->blocks.count; i++)
         if (block_at(b, i)->memory != VK_NULL_HANDLE) give_back(b, i);
     (void)pilhangko_allocator_destroy(&b->allocator);
+    free(b->chains);
     free(b->blocks.records);
     free(b->live.records);
     free(b);

@@ -21,10 +21,10 @@ static pilhangko_vulkan vulkan;
 static struct resource resources[RESOURCES], upload, readback;
 
 static void check(pilhangko_status status) {
-    if (status != PILHANGKO_OK) fail(pilhangko_vulkan_status_text(status), (long)status);
+    if (status != PILHANGKO_OK) fail(pilhangko_status_text(status), (long)status);
 }
 
-static void make_buffer(struct resource *r, VkDeviceSize bytes, uint32_t location, bool dedicated, const char *name) {
+static void make_buffer(struct resource *r, VkDeviceSize bytes, pilhangko_location location, bool dedicated, const char *name) {
     const VkBufferCreateInfo info = {.sType = VK_STRUCTURE_TYPE_BUFFER_CREATE_INFO, .size = r->bytes = bytes,
         .usage = VK_BUFFER_USAGE_TRANSFER_SRC_BIT | VK_BUFFER_USAGE_TRANSFER_DST_BIT};
     const pilhangko_vulkan_placement placement = {location, dedicated, name};
@@ -34,8 +34,8 @@ static void make_buffer(struct resource *r, VkDeviceSize bytes, uint32_t locatio
 
 static void make_image(struct resource *r, uint32_t width, uint32_t height, const char *name) {
     const VkImageCreateInfo info = {.sType = VK_STRUCTURE_TYPE_IMAGE_CREATE_INFO, .imageType = VK_IMAGE_TYPE_2D,
-        .format = VK_FORMAT_R8G8B8A8_UNORM, .extent = {width, height, 1}, .mipLevels = 1, .arrayLayers = 1, .samples = 1,
-        .usage = VK_IMAGE_USAGE_TRANSFER_SRC_BIT | VK_IMAGE_USAGE_TRANSFER_DST_BIT};
+        .format = VK_FORMAT_R8G8B8A8_UNORM, .extent = {width, height, 1}, .mipLevels = 1, .arrayLayers = 1,
+        .samples = VK_SAMPLE_COUNT_1_BIT, .usage = VK_IMAGE_USAGE_TRANSFER_SRC_BIT | VK_IMAGE_USAGE_TRANSFER_DST_BIT};
     const pilhangko_vulkan_placement placement = {PILHANGKO_LOCATION_GPU_ONLY, false, name};
     check(pilhangko_vulkan_create_image(&vulkan, &info, &placement, &r->image, &r->allocation).status);
     reply_place(&r->allocation);
@@ -84,11 +84,12 @@ static void fill_and_compare(void) {
     for (unsigned i = 0; i < RESOURCES; bytes += resources[i++].bytes) resources[i].at = bytes;
     make_buffer(&upload, bytes, PILHANGKO_LOCATION_CPU_TO_GPU, false, "upload");
     make_buffer(&readback, bytes, PILHANGKO_LOCATION_GPU_TO_CPU, false, "readback");
-    unsigned char *written = pilhangko_vulkan_mapped(&vulkan, &upload.allocation);
+    unsigned char *written = (unsigned char *)pilhangko_vulkan_mapped(&vulkan, &upload.allocation);
     for (VkDeviceSize k = 0; k < bytes; k++) written[k] = (unsigned char)(k * 2654435761u >> 13);
     check(pilhangko_vulkan_flush(&vulkan, &upload.allocation, 0, VK_WHOLE_SIZE).status);
     for (unsigned i = 0; i < RESOURCES; i++) copy_there_and_back(&resources[i]);
-    wait_for_copies(VK_NULL_HANDLE, 0, 0, VK_PIPELINE_STAGE_HOST_BIT, VK_ACCESS_HOST_READ_BIT);
+    const VkImageLayout none = VK_IMAGE_LAYOUT_UNDEFINED;
+    wait_for_copies(VK_NULL_HANDLE, none, none, VK_PIPELINE_STAGE_HOST_BIT, VK_ACCESS_HOST_READ_BIT);
     run_commands(&gpu);
     check(pilhangko_vulkan_invalidate(&vulkan, &readback.allocation, 0, VK_WHOLE_SIZE).status);
     if (memcmp(written, pilhangko_vulkan_mapped(&vulkan, &readback.allocation), bytes)) fail("other bytes came back", 0);

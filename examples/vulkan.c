@@ -79,7 +79,7 @@ static bool has_validation(void) {
     uint32_t count = 0;
     bool found = false;
     VK(vkEnumerateInstanceLayerProperties(&count, NULL));
-    VkLayerProperties *layers = calloc(count ? count : 1, sizeof *layers);
+    VkLayerProperties *layers = (VkLayerProperties *)calloc(count ? count : 1, sizeof *layers);
     if (!layers) fail("host memory", 0);
     VK(vkEnumerateInstanceLayerProperties(&count, layers));
     for (uint32_t i = 0; i < count; i++) found |= !strcmp(layers[i].layerName, validation_layer);
@@ -196,7 +196,9 @@ static void make_image(struct resource *r, VkImageTiling tiling, VkMemoryRequire
         .samples = VK_SAMPLE_COUNT_1_BIT,
         .tiling = tiling,
         .usage = VK_IMAGE_USAGE_TRANSFER_SRC_BIT | VK_IMAGE_USAGE_TRANSFER_DST_BIT};
-    info.extent = (VkExtent3D){1 + (uint32_t)random_below(200), 1 + (uint32_t)random_below(200), 1};
+    info.extent.width = 1 + (uint32_t)random_below(200);
+    info.extent.height = 1 + (uint32_t)random_below(200);
+    info.extent.depth = 1;
     VK(vkCreateImage(device, &info, NULL, &r->image));
     vkGetImageMemoryRequirements(device, r->image, needs);
 }

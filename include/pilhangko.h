@@ -13,7 +13,9 @@
  *     threads with handles of their own need no lock. The program's malloc, realloc and free have to be callable from each of these
  *     threads, also for a block that another one allocated, as a C library's are.
  *   - It is not used in a signal handler, nor in the forked child of a process with threads.
- * A handle that is never destroyed leaks its host memory.
+ * A handle that is never destroyed leaks its host memory. A piece doesn't say which handle it is of: one of another virtual block, memory
+ * type or allocator, or of one that was destroyed, is taken for the live piece here that has the same numbers, where there is one. (The
+ * allocations of a pilhangko_vulkan do say it.)
  *
  * const. A call on a `const` handle changes nothing that lies behind it. It still needs the handle to itself, since it takes the value out
  * and puts it back: two such calls may not overlap either, and a handle is never itself defined const.
@@ -38,13 +40,18 @@
 #define PILHANGKO_VERSION_MINOR 1
 #define PILHANGKO_VERSION_PATCH 0
 
-/* What stands before the archive's symbols, and their calling convention: nothing, which is right for a static library. Define them before
- * this header where a shared library passes the symbols on (__declspec(dllexport), visibility, __cdecl ..). */
+/* What stands before the archive's symbols: nothing, which is right for a static library. Define it before this header where a shared
+ * library passes the symbols on (__declspec(dllexport), visibility ..). And their calling convention, C's: on Windows a compiler's default
+ * may be another one. */
 #ifndef PILHANGKO_API
 #define PILHANGKO_API
 #endif
 #ifndef PILHANGKO_CALL
+#ifdef _WIN32
+#define PILHANGKO_CALL __cdecl
+#else
 #define PILHANGKO_CALL
+#endif
 #endif
 
 /* Before each call whose status shall be looked at, which is each but destroy: the compiler warns where it is dropped. Define it before
@@ -63,11 +70,13 @@
 extern "C" {
 #endif
 
-/* What a call returns. pilhangko_status_name and pilhangko_status_text have each one's name and one line of text.
+/* What a call returns, of this header and of the Vulkan binding. pilhangko_status_name and pilhangko_status_text have each one's name and
+ * one line of text.
  *
  * 1 to 11 are the allocator's errors by the numbers that they have everywhere in this project; 7 to 9, of resources of DirectX 12, are
  * missing. 12 and 13 are two causes that have the number 6 elsewhere, 14 and 15 two that have 5; 16 to 99 are kept for further errors. From
- * 100 on the handle is in another state than the call needs, from 200 on the header's own test of what it was passed has failed. */
+ * 100 on the handle is in another state than the call needs, from 200 on the header's own test of what it was passed has failed, from 300
+ * on it is the Vulkan binding's (pilhangko_vulkan.h). */
 typedef uint32_t pilhangko_status;
 enum {
     /* The call did what it says. */
@@ -109,17 +118,46 @@ enum {
     PILHANGKO_AWAITS_ANSWER = 104,
     /* No question is open, so there is none to answer. */
     PILHANGKO_AWAITS_NO_ANSWER = 105,
-    /* A pointer is NULL that may not be. Only the calls of this header return it, before they call the archive. */
-    PILHANGKO_NULL_POINTER = 200
+    /* A pointer is NULL that may not be. Only the headers' calls return it; the archive's symbols look at none. */
+    PILHANGKO_NULL_POINTER = 200,
+    /* The driver refused to make, to bind, to flush or to invalidate, or said VK_SUCCESS and gave a null handle. */
+    PILHANGKO_VULKAN_CALL_FAILED = 300,
+    /* A function that is needed is missing: the loader doesn't have it, or it is NULL in the table. */
+    PILHANGKO_VULKAN_NO_FUNCTION = 301,
+    /* The host can't see the allocation's memory. */
+    PILHANGKO_VULKAN_NOT_MAPPED = 302,
+    /* The range isn't within the allocation. */
+    PILHANGKO_VULKAN_OUT_OF_RANGE = 303,
+    /* VK_EXT_memory_budget isn't enabled. */
+    PILHANGKO_VULKAN_NO_BUDGETS = 304,
+    /* No memory heap has that index. */
+    PILHANGKO_VULKAN_NO_SUCH_HEAP = 305,
+    /* No capture is under way. */
+    PILHANGKO_VULKAN_NO_CAPTURE = 306,
+    /* The nonCoherentAtomSize of a device is no power of two. */
+    PILHANGKO_VULKAN_INVALID_ATOM_SIZE = 307,
+    /* A device has more than 16 memory heaps. */
+    PILHANGKO_VULKAN_TOO_MANY_HEAPS = 308
 };
 
+/* How the types of named values are declared: 32 bits everywhere, of an unsigned type where the language lets it be said. A compiler that
+ * looks (-Wenum-conversion, which -Wextra has, in C; each one in C++) finds a value of another type in a field. A field may hold any number
+ * all the same, and each call tests it. */
+#if defined(__cplusplus) || defined(__STDC_VERSION__) && __STDC_VERSION__ >= 202311L
+#define PILHANGKO_ENUM(name) enum name : uint32_t
+#else
+#define PILHANGKO_ENUM(name) enum name
+#endif
+
 /* The kind of a piece. Pieces of different kinds share no page of their block. */
-enum {
+typedef PILHANGKO_ENUM(pilhangko_kind) {
     /* Buffers and linear images. */
     PILHANGKO_KIND_LINEAR = 1,
     /* Images in the device's own layout. */
     PILHANGKO_KIND_NON_LINEAR = 2
-};
+} pilhangko_kind;
+/* -fshort-enums would make them shorter */
+typedef char pilhangko_enums_have_32_bits[sizeof(pilhangko_kind) == 4 ? 1 : -1];
 
 /* ---- Virtual blocks: one block of a size, cut into pieces. Numbers alone: no memory is behind it. ---- */
 
@@ -131,7 +169,7 @@ typedef struct pilhangko_virtual_block {
 typedef struct pilhangko_virtual_request {
     uint64_t size;
     uint64_t alignment;
-    uint32_t kind;
+    pilhangko_kind kind;
 } pilhangko_virtual_request;
 
 /* A piece: where it begins in the block, and its number there, which is never 0. A piece that was freed is refused
@@ -157,7 +195,7 @@ typedef struct pilhangko_piece_view {
     uint64_t start;
     uint64_t offset;
     uint64_t end;
-    uint32_t kind;
+    pilhangko_kind kind;
 } pilhangko_piece_view;
 
 /* ---- Memory types: blocks that come and go, each asked of the driver by the caller. ---- */
@@ -184,7 +222,7 @@ typedef struct pilhangko_memory_type_settings {
 typedef struct pilhangko_memory_request {
     uint64_t size;
     uint64_t alignment;
-    uint32_t kind;
+    pilhangko_kind kind;
     bool dedicated;
 } pilhangko_memory_request;
 
@@ -258,7 +296,7 @@ typedef struct pilhangko_allocator_settings {
 } pilhangko_allocator_settings;
 
 /* Who reads and writes a piece. */
-enum {
+typedef PILHANGKO_ENUM(pilhangko_location) {
     /* Anyone: the first memory type that the request allows serves. */
     PILHANGKO_LOCATION_UNKNOWN = 1,
     /* The GPU: device-local memory. */
@@ -267,26 +305,26 @@ enum {
     PILHANGKO_LOCATION_CPU_TO_GPU = 3,
     /* The GPU writes and the host reads it: readback. */
     PILHANGKO_LOCATION_GPU_TO_CPU = 4
-};
+} pilhangko_location;
 
 /* What memory is made for. */
-enum {
+typedef PILHANGKO_ENUM(pilhangko_scheme) {
     /* Whatever the allocator puts there. */
     PILHANGKO_SCHEME_MANAGED = 1,
     /* One buffer alone (VkMemoryDedicatedAllocateInfo). */
     PILHANGKO_SCHEME_BUFFER = 2,
     /* One image alone. */
     PILHANGKO_SCHEME_IMAGE = 3
-};
+} pilhangko_scheme;
 
 typedef struct pilhangko_allocator_request {
     uint64_t size;             /* not 0 */
     uint64_t alignment;        /* a power of two */
     uint32_t memory_type_bits; /* bit i says that memory type i serves */
-    uint32_t kind;             /* PILHANGKO_KIND_.. */
-    uint32_t location;         /* PILHANGKO_LOCATION_.. */
-    uint32_t scheme;           /* PILHANGKO_SCHEME_.. */
-    uint64_t resource;         /* the VkBuffer or VkImage that it is for alone; it counts where it is for one */
+    pilhangko_kind kind;
+    pilhangko_location location;
+    pilhangko_scheme scheme;
+    uint64_t resource; /* the VkBuffer or VkImage that it is for alone; it counts where it is for one */
 } pilhangko_allocator_request;
 
 /* A piece: its memory type, whether its block is mapped, and where it lies; piece.block is the driver's memory. No call reads mapped. */
@@ -300,25 +338,25 @@ typedef struct pilhangko_allocator_piece {
 typedef struct pilhangko_allocator_question {
     uint64_t size;
     uint32_t memory_type;
-    uint32_t scheme;     /* PILHANGKO_SCHEME_.. */
+    pilhangko_scheme scheme;
     uint64_t resource;   /* the VkBuffer or VkImage that it is for alone, else 0 */
     bool device_address; /* VK_MEMORY_ALLOCATE_DEVICE_ADDRESS_BIT */
     bool mapped;         /* whether it is to be mapped, whole */
 } pilhangko_allocator_question;
 
 /* What a request leads to. */
-enum {
+typedef PILHANGKO_ENUM(pilhangko_progress_kind) {
     /* A piece is allocated. */
     PILHANGKO_PROGRESS_PIECE = 1,
     /* Ask the driver, and then call granted, refused or mapping_refused. */
     PILHANGKO_PROGRESS_QUESTION = 2,
     /* The request is refused, and over: status says why. Only refused and mapping_refused report it. */
     PILHANGKO_PROGRESS_REFUSED = 3
-};
+} pilhangko_progress_kind;
 
 /* kind says which member counts; the others are all zeros. */
 typedef struct pilhangko_allocator_progress {
-    uint32_t kind;           /* PILHANGKO_PROGRESS_.. */
+    pilhangko_progress_kind kind;
     pilhangko_status status; /* why the request is refused, else PILHANGKO_OK */
     pilhangko_allocator_piece piece;
     pilhangko_allocator_question question;
@@ -471,6 +509,15 @@ static inline const char *pilhangko_status_name(pilhangko_status status) {
     case PILHANGKO_AWAITS_ANSWER: return "PILHANGKO_AWAITS_ANSWER";
     case PILHANGKO_AWAITS_NO_ANSWER: return "PILHANGKO_AWAITS_NO_ANSWER";
     case PILHANGKO_NULL_POINTER: return "PILHANGKO_NULL_POINTER";
+    case PILHANGKO_VULKAN_CALL_FAILED: return "PILHANGKO_VULKAN_CALL_FAILED";
+    case PILHANGKO_VULKAN_NO_FUNCTION: return "PILHANGKO_VULKAN_NO_FUNCTION";
+    case PILHANGKO_VULKAN_NOT_MAPPED: return "PILHANGKO_VULKAN_NOT_MAPPED";
+    case PILHANGKO_VULKAN_OUT_OF_RANGE: return "PILHANGKO_VULKAN_OUT_OF_RANGE";
+    case PILHANGKO_VULKAN_NO_BUDGETS: return "PILHANGKO_VULKAN_NO_BUDGETS";
+    case PILHANGKO_VULKAN_NO_SUCH_HEAP: return "PILHANGKO_VULKAN_NO_SUCH_HEAP";
+    case PILHANGKO_VULKAN_NO_CAPTURE: return "PILHANGKO_VULKAN_NO_CAPTURE";
+    case PILHANGKO_VULKAN_INVALID_ATOM_SIZE: return "PILHANGKO_VULKAN_INVALID_ATOM_SIZE";
+    case PILHANGKO_VULKAN_TOO_MANY_HEAPS: return "PILHANGKO_VULKAN_TOO_MANY_HEAPS";
     default: return "unknown status";
     }
 }
@@ -498,6 +545,15 @@ static inline const char *pilhangko_status_text(pilhangko_status status) {
     case PILHANGKO_AWAITS_ANSWER: return "a question is open: answer it first";
     case PILHANGKO_AWAITS_NO_ANSWER: return "no question is open";
     case PILHANGKO_NULL_POINTER: return "a pointer is NULL that may not be";
+    case PILHANGKO_VULKAN_CALL_FAILED: return "the driver refused to make, to bind, to flush or to invalidate";
+    case PILHANGKO_VULKAN_NO_FUNCTION: return "a function of Vulkan that is needed is missing";
+    case PILHANGKO_VULKAN_NOT_MAPPED: return "the host can't see the allocation's memory";
+    case PILHANGKO_VULKAN_OUT_OF_RANGE: return "the range isn't within the allocation";
+    case PILHANGKO_VULKAN_NO_BUDGETS: return "VK_EXT_memory_budget isn't enabled";
+    case PILHANGKO_VULKAN_NO_SUCH_HEAP: return "no memory heap has that index";
+    case PILHANGKO_VULKAN_NO_CAPTURE: return "no capture is under way";
+    case PILHANGKO_VULKAN_INVALID_ATOM_SIZE: return "invalid device: nonCoherentAtomSize is no power of two";
+    case PILHANGKO_VULKAN_TOO_MANY_HEAPS: return "invalid device: more than 16 memory heaps";
     default: return "unknown status";
     }
 }

@@ -26,24 +26,6 @@
 extern "C" {
 #endif
 
-/* The statuses of the binding, beside those of pilhangko.h. */
-enum {
-    /* The driver refused to make, to bind, to flush or to invalidate, or said VK_SUCCESS and gave a null handle. */
-    PILHANGKO_VULKAN_CALL_FAILED = 300,
-    /* A function that is needed is missing: the loader doesn't have it, or it is NULL in the table. */
-    PILHANGKO_VULKAN_NO_FUNCTION = 301,
-    /* The host can't see the allocation's memory. */
-    PILHANGKO_VULKAN_NOT_MAPPED = 302,
-    /* The range isn't within the allocation. */
-    PILHANGKO_VULKAN_OUT_OF_RANGE = 303,
-    /* VK_EXT_memory_budget isn't enabled. */
-    PILHANGKO_VULKAN_NO_BUDGETS = 304,
-    /* No memory heap has that index. */
-    PILHANGKO_VULKAN_NO_SUCH_HEAP = 305,
-    /* No capture is under way. */
-    PILHANGKO_VULKAN_NO_CAPTURE = 306
-};
-
 /* What a call that asks the driver results in. driver: VK_SUCCESS where status is PILHANGKO_OK; else the last code with which the driver
  * refused in this call, and VK_SUCCESS where it refused nothing, or by null pointers and handles alone. */
 typedef struct pilhangko_vulkan_result {
@@ -85,14 +67,6 @@ PILHANGKO_NODISCARD PILHANGKO_API pilhangko_status PILHANGKO_CALL pilhangko_vulk
     VkInstance instance, VkDevice device, uint32_t api_version, PFN_vkGetInstanceProcAddr get_instance_proc_addr,
     PFN_vkGetDeviceProcAddr get_device_proc_addr);
 
-/* The table from a loader that the program links: define PILHANGKO_VULKAN_LINKED before this header. */
-#ifdef PILHANGKO_VULKAN_LINKED
-PILHANGKO_NODISCARD static inline pilhangko_status pilhangko_vulkan_load_linked(
-    pilhangko_vulkan_functions *functions, VkInstance instance, VkDevice device, uint32_t api_version) {
-    return pilhangko_vulkan_load(functions, instance, device, api_version, vkGetInstanceProcAddr, vkGetDeviceProcAddr);
-}
-#endif
-
 /* ---- Create and destroy ---- */
 
 typedef struct pilhangko_vulkan {
@@ -122,14 +96,14 @@ typedef struct pilhangko_vulkan_settings {
 } pilhangko_vulkan_settings;
 
 /* Makes a binding without blocks in an empty handle. It asks the driver for the device's properties, and for no memory.
- * NULL_POINTER: a pointer or a handle. IN_USE: the handle isn't empty. NO_FUNCTION. HOST_OUT_OF_MEMORY. And what the driver tells:
- * INVALID_DEVICE: a nonCoherentAtomSize or bufferImageGranularity that is no power of two, or more than 16 heaps. TOO_MANY_TYPES.
- * NO_SUCH_HEAP. */
+ * NULL_POINTER: a pointer or a handle. IN_USE: the handle isn't empty. NO_FUNCTION. HOST_OUT_OF_MEMORY: the binding's own. Of what the
+ * driver tells: VULKAN_INVALID_ATOM_SIZE. TOO_MANY_TYPES. VULKAN_TOO_MANY_HEAPS. INVALID_DEVICE: bufferImageGranularity is no power of two.
+ * NO_SUCH_HEAP. HOST_OUT_OF_MEMORY. */
 PILHANGKO_NODISCARD PILHANGKO_API pilhangko_status PILHANGKO_CALL pilhangko_vulkan_create(
     pilhangko_vulkan *vulkan, const pilhangko_vulkan_settings *settings);
 
 /* How a capture ended. */
-enum {
+typedef PILHANGKO_ENUM(pilhangko_vulkan_capture_end) {
     /* There is none, or its end was told before. */
     PILHANGKO_VULKAN_CAPTURE_NONE = 0,
     /* All calls are in it. */
@@ -140,9 +114,9 @@ enum {
     PILHANGKO_VULKAN_CAPTURE_NO_HOST_MEMORY = 3,
     /* capture_write couldn't take all of it. */
     PILHANGKO_VULKAN_CAPTURE_NOT_WRITTEN = 4
-};
+} pilhangko_vulkan_capture_end;
 typedef struct pilhangko_vulkan_capture {
-    uint32_t end; /* PILHANGKO_VULKAN_CAPTURE_.. */
+    pilhangko_vulkan_capture_end end;
     size_t bytes; /* what capture_write took */
 } pilhangko_vulkan_capture;
 
@@ -162,25 +136,26 @@ PILHANGKO_API pilhangko_status PILHANGKO_CALL pilhangko_vulkan_destroy(pilhangko
 /* What memory is wanted for. */
 typedef struct pilhangko_vulkan_request {
     VkMemoryRequirements requirements;
-    uint32_t location; /* PILHANGKO_LOCATION_.. */
-    uint32_t kind;     /* PILHANGKO_KIND_.. */
-    uint32_t scheme;   /* PILHANGKO_SCHEME_..: MANAGED, or memory for the buffer or the image alone */
-    VkBuffer buffer;   /* it counts where the scheme is PILHANGKO_SCHEME_BUFFER, and isn't null then */
-    VkImage image;     /* it counts where the scheme is PILHANGKO_SCHEME_IMAGE, and isn't null then */
-    const char *name;  /* copied; NULL for none */
+    pilhangko_location location;
+    pilhangko_kind kind;
+    pilhangko_scheme scheme; /* PILHANGKO_SCHEME_MANAGED, or memory for the buffer or the image alone */
+    VkBuffer buffer;         /* it counts where the scheme is PILHANGKO_SCHEME_BUFFER, and isn't null then */
+    VkImage image;           /* it counts where the scheme is PILHANGKO_SCHEME_IMAGE, and isn't null then */
+    const char *name;        /* copied; NULL for none */
 } pilhangko_vulkan_request;
 
-/* An allocation: bind at offset of memory. The calls read the last three fields alone. One that was freed is refused (PILHANGKO_NOT_LIVE)
- * as long as its binding lives, and so is one of another binding. */
+/* An allocation: bind at offset of memory. The calls read the last three fields alone. One that was freed is refused for good
+ * (PILHANGKO_NOT_LIVE), and so is one of another binding, also of one that was destroyed. (Bindings of copies of pilhangko_vulkan.c in
+ * different shared libraries are numbered apart: keep their allocations apart.) */
 typedef struct pilhangko_vulkan_allocation {
     VkDeviceMemory memory;
     VkDeviceSize offset;
     VkDeviceSize size;
     bool dedicated; /* whether the memory is for one buffer or image alone */
     pilhangko_allocator_piece piece;
-    const void *owner; /* the binding */
-    uint64_t serial;   /* which of its allocations: 1, 2, .. as they were made */
-    uint32_t index;    /* the library's own */
+    uint64_t owner;  /* which binding: 1, 2, .. as the process made them */
+    uint64_t serial; /* which of its allocations: 1, 2, .. as they were made */
+    uint32_t index;  /* the library's own */
 } pilhangko_vulkan_allocation;
 
 /* Allocates memory. Where a memory type that the request allows needs flushes, the alignment is nonCoherentAtomSize at least, so that a
@@ -230,9 +205,9 @@ PILHANGKO_NODISCARD PILHANGKO_API pilhangko_status PILHANGKO_CALL pilhangko_vulk
 
 /* Where a buffer or an image goes. */
 typedef struct pilhangko_vulkan_placement {
-    uint32_t location; /* PILHANGKO_LOCATION_.. */
-    bool dedicated;    /* whether it shall have memory of its own */
-    const char *name;  /* copied; NULL for none */
+    pilhangko_location location;
+    bool dedicated;   /* whether it shall have memory of its own */
+    const char *name; /* copied; NULL for none */
 } pilhangko_vulkan_placement;
 
 /* Makes a buffer or an image with memory and binds it. It has memory of its own where placement says so or the driver requires it; where
@@ -290,10 +265,11 @@ PILHANGKO_NODISCARD PILHANGKO_API const pilhangko_allocator *PILHANGKO_CALL pilh
 /* ---- Captures ---- */
 
 /* A capture is the trace of a binding's calls from create on: `gpu_trace` replays it, and replies the same places, numbers and refusals
- * (docs/TRACE.md). It has the device and its refusals, then a line for each allocation, free, rename and bound of a memory type; destroy
- * ends it. An allocation is called by its serial number, a refused one by the next one's. Bytes of a name beyond `!` to `~` are written as
- * `_`, and so is a name of no bytes; a name is cut after 64 bytes. Calls that changed nothing aren't written, but for allocations that were
- * refused for another cause than INVALID and HOST_OUT_OF_MEMORY.
+ * (docs/TRACE.md). It has the device and its refusals, then a line for each allocation, free and rename, and before an allocation and at
+ * the end one for each memory type whose bound is another than the last line about it says; destroy ends it. An allocation is called by its
+ * serial number, a refused one by the next one's. Bytes of a name beyond `!` to `~` are written as `_`, and so is a name of no bytes; a
+ * name is cut after 64 bytes. Calls that changed nothing aren't written, but for allocations that were refused for another cause than
+ * INVALID and HOST_OUT_OF_MEMORY.
  *
  * The refusals stand before the calls, so the capture is kept in host memory, at most 1 MB, and written when it ends. Where it can't go
  * on, it ends behind a whole call, its last line says why, and the binding works on. This call ends it before destroy does.
@@ -301,35 +277,21 @@ PILHANGKO_NODISCARD PILHANGKO_API const pilhangko_allocator *PILHANGKO_CALL pilh
 PILHANGKO_NODISCARD PILHANGKO_API pilhangko_status PILHANGKO_CALL pilhangko_vulkan_end_capture(
     pilhangko_vulkan *vulkan, pilhangko_vulkan_capture *capture);
 
-/* ---- Statuses ---- */
-
-/* A status of the binding or of pilhangko.h by its name, and in one line of text. */
-static inline const char *pilhangko_vulkan_status_name(pilhangko_status status) {
-    switch (status) {
-    case PILHANGKO_VULKAN_CALL_FAILED: return "PILHANGKO_VULKAN_CALL_FAILED";
-    case PILHANGKO_VULKAN_NO_FUNCTION: return "PILHANGKO_VULKAN_NO_FUNCTION";
-    case PILHANGKO_VULKAN_NOT_MAPPED: return "PILHANGKO_VULKAN_NOT_MAPPED";
-    case PILHANGKO_VULKAN_OUT_OF_RANGE: return "PILHANGKO_VULKAN_OUT_OF_RANGE";
-    case PILHANGKO_VULKAN_NO_BUDGETS: return "PILHANGKO_VULKAN_NO_BUDGETS";
-    case PILHANGKO_VULKAN_NO_SUCH_HEAP: return "PILHANGKO_VULKAN_NO_SUCH_HEAP";
-    case PILHANGKO_VULKAN_NO_CAPTURE: return "PILHANGKO_VULKAN_NO_CAPTURE";
-    default: return pilhangko_status_name(status);
-    }
-}
-static inline const char *pilhangko_vulkan_status_text(pilhangko_status status) {
-    switch (status) {
-    case PILHANGKO_VULKAN_CALL_FAILED: return "the driver refused to make, to bind, to flush or to invalidate";
-    case PILHANGKO_VULKAN_NO_FUNCTION: return "a function of Vulkan that is needed is missing";
-    case PILHANGKO_VULKAN_NOT_MAPPED: return "the host can't see the allocation's memory";
-    case PILHANGKO_VULKAN_OUT_OF_RANGE: return "the range isn't within the allocation";
-    case PILHANGKO_VULKAN_NO_BUDGETS: return "VK_EXT_memory_budget isn't enabled";
-    case PILHANGKO_VULKAN_NO_SUCH_HEAP: return "no memory heap has that index";
-    case PILHANGKO_VULKAN_NO_CAPTURE: return "no capture is under way";
-    default: return pilhangko_status_text(status);
-    }
-}
+/* pilhangko_status_name and pilhangko_status_text know each status; these are the names that they had here. */
+#define pilhangko_vulkan_status_name pilhangko_status_name
+#define pilhangko_vulkan_status_text pilhangko_status_text
 
 #ifdef __cplusplus
 }
 #endif
+#endif
+
+/* As pilhangko_vulkan_load, from a loader that the program links: define PILHANGKO_VULKAN_LINKED before any of the program's inclusions of
+ * this header, be it the first one or a later one, and don't define VK_NO_PROTOTYPES. */
+#if defined(PILHANGKO_VULKAN_LINKED) && !defined(PILHANGKO_VULKAN_LOAD_LINKED)
+#define PILHANGKO_VULKAN_LOAD_LINKED
+PILHANGKO_NODISCARD static inline pilhangko_status pilhangko_vulkan_load_linked(
+    pilhangko_vulkan_functions *functions, VkInstance instance, VkDevice device, uint32_t api_version) {
+    return pilhangko_vulkan_load(functions, instance, device, api_version, vkGetInstanceProcAddr, vkGetDeviceProcAddr);
+}
 #endif

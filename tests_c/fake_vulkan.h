@@ -143,9 +143,9 @@ static VKAPI_ATTR VkResult VKAPI_CALL fake_map(
     CHECK(device && offset == 0 && size == VK_WHOLE_SIZE && flags == 0);
     CHECK(!memory->mapped && (fake_types[memory->type].propertyFlags & VK_MEMORY_PROPERTY_HOST_VISIBLE_BIT));
     if (answer == FAKE_REFUSES) return code;
-    memory->mapped = true;
     *bytes = NULL;
-    if (answer != FAKE_GRANTS) return VK_SUCCESS;
+    if (answer != FAKE_GRANTS) return VK_SUCCESS; /* no address, and so no mapping that could be undone */
+    memory->mapped = true;
     memory->bytes = calloc(1, memory->size);
     CHECK(memory->bytes);
     *bytes = memory->bytes;

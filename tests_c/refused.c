@@ -10,15 +10,15 @@ static unsigned refusals;
 /* The call once more, where its request was refused. `same` is what may not have changed. */
 #define TRIED(call, same) \
     do { \
-        pilhangko_status got_ = (call); \
-        if (got_ == PILHANGKO_HOST_OUT_OF_MEMORY) { \
+        pilhangko_status tried_ = (call); \
+        if (tried_ == PILHANGKO_HOST_OUT_OF_MEMORY) { \
             CHECK(heap_requests >= heap_refused && heap_refused > 0); \
             refusals++; \
             heap_refused = 0; \
             CHECK(same); \
-            got_ = (call); \
+            tried_ = (call); \
         } \
-        IS(got_, PILHANGKO_OK); \
+        IS(tried_, PILHANGKO_OK); \
     } while (0)
 
 static bool block_has(const pilhangko_virtual_block *block, size_t pieces) {
@@ -73,8 +73,8 @@ static void memory_types(void) {
         pieces[i] = prepared.piece;
     }
     for (unsigned i = 0; i < 12; i++)
-        TRIED(pilhangko_memory_type_rename(&type, &pieces[i], "another name that takes memory of its own"),
-            type_has(&type, capacity, slots));
+        TRIED(
+            pilhangko_memory_type_rename(&type, &pieces[i], "another name that takes memory of its own"), type_has(&type, capacity, slots));
     long before = heap_requests;
     pilhangko_memory_block gone;
     for (unsigned i = 0; i < 12; i++) IS(pilhangko_memory_type_free(&type, &pieces[i], &gone), PILHANGKO_OK);

@@ -24,7 +24,7 @@ static void ends(pilhangko_vulkan *vulkan, uint64_t leaks) {
     CHECK(ending.leaks == leaks);
 }
 
-static pilhangko_vulkan_request asks(uint64_t size, uint32_t bits, uint32_t location) {
+static pilhangko_vulkan_request asks(uint64_t size, uint32_t bits, pilhangko_location location) {
     pilhangko_vulkan_request request;
     memset(&request, 0, sizeof request);
     request.requirements.size = size;
@@ -243,6 +243,35 @@ static void loaders(void) {
     CHECK((PFN_vkVoidFunction)f.vkGetPhysicalDeviceMemoryProperties2 == (PFN_vkVoidFunction)fake_properties);
 }
 
+/* Devices that make no sense, each with its first cause. */
+static const struct {
+    VkDeviceSize atom, granularity;
+    uint32_t types, heaps;
+    pilhangko_status status;
+} odd_devices[] = {
+    {0, 64, 5, 3, PILHANGKO_VULKAN_INVALID_ATOM_SIZE},
+    {48, 100, 33, 17, PILHANGKO_VULKAN_INVALID_ATOM_SIZE},
+    {64, 100, 33, 17, PILHANGKO_TOO_MANY_TYPES},
+    {64, 100, 5, 17, PILHANGKO_VULKAN_TOO_MANY_HEAPS},
+    {64, 100, 5, 2, PILHANGKO_INVALID_DEVICE},
+    {64, 0, 5, 3, PILHANGKO_INVALID_DEVICE},
+    {64, 64, 5, 2, PILHANGKO_NO_SUCH_HEAP},
+};
+
+static void texts(void) {
+    for (size_t i = 0; i < sizeof odd_devices / sizeof *odd_devices; i++)
+        CHECK(!strncmp(pilhangko_status_text(odd_devices[i].status), "invalid device: ", 16));
+    for (pilhangko_status status = PILHANGKO_VULKAN_CALL_FAILED; status <= PILHANGKO_VULKAN_TOO_MANY_HEAPS; status++) {
+        CHECK(!strncmp(pilhangko_status_name(status), "PILHANGKO_VULKAN_", 17));
+        CHECK(strcmp(pilhangko_status_text(status), "unknown status"));
+    }
+    CHECK(!strcmp(pilhangko_status_text(PILHANGKO_INVALID_DEVICE), "invalid device: the page size is no power of two"));
+    CHECK(!strcmp(pilhangko_status_text(PILHANGKO_VULKAN_INVALID_ATOM_SIZE), "invalid device: nonCoherentAtomSize is no power of two"));
+    CHECK(!strcmp(pilhangko_status_text(PILHANGKO_VULKAN_TOO_MANY_HEAPS), "invalid device: more than 16 memory heaps"));
+    CHECK(!strcmp(pilhangko_status_text(309), "unknown status") && !strcmp(pilhangko_status_name(309), "unknown status"));
+    CHECK(!strcmp(pilhangko_vulkan_status_text(PILHANGKO_OK), pilhangko_status_text(PILHANGKO_OK))); /* by its former name */
+}
+
 static void creations(void) {
     pilhangko_vulkan vulkan = {0};
     const pilhangko_vulkan_settings good = fake_settings();
@@ -266,17 +295,15 @@ static void creations(void) {
     functions.vkGetPhysicalDeviceMemoryProperties2 = NULL;
     bad.memory_budget = true;
     IS(pilhangko_vulkan_create(&vulkan, &bad), PILHANGKO_VULKAN_NO_FUNCTION);
-    for (unsigned i = 0; i < 7; i++) {
-        fake.atom = i == 0 ? 0 : i == 1 ? 48 : 64;
-        fake.granularity = i == 2 ? 0 : i == 3 ? 100 : 64;
-        fake.heap_count = i == 4 ? 17 : i == 5 ? 2 : 3;
-        fake.type_count = i == 6 ? 33 : 5;
-        IS(pilhangko_vulkan_create(&vulkan, &good), i < 5    ? PILHANGKO_INVALID_DEVICE
-                                                    : i == 5 ? PILHANGKO_NO_SUCH_HEAP
-                                                             : (pilhangko_status)PILHANGKO_TOO_MANY_TYPES);
+    for (size_t i = 0; i < sizeof odd_devices / sizeof *odd_devices; i++) {
+        fake.atom = odd_devices[i].atom;
+        fake.granularity = odd_devices[i].granularity;
+        fake.type_count = odd_devices[i].types;
+        fake.heap_count = odd_devices[i].heaps;
+        IS(pilhangko_vulkan_create(&vulkan, &good), odd_devices[i].status);
         CHECK(!vulkan.opaque && heap_held == 0);
     }
-    fake.type_count = 5;
+    fake_begin();
     IS(pilhangko_vulkan_create(&vulkan, &good), PILHANGKO_OK);
     IS(pilhangko_vulkan_create(&vulkan, &good), PILHANGKO_IN_USE);
     IS(pilhangko_vulkan_destroy(&vulkan, NULL), PILHANGKO_OK);
@@ -427,7 +454,7 @@ static void foreign_allocations(void) {
         pilhangko_vulkan_allocation wrong = mine;
         bool live = true;
         if (field == 0) wrong = others;
-        if (field == 1) wrong.owner = NULL;
+        if (field == 1) wrong.owner = 0;
         if (field == 2) wrong.serial = 0;
         if (field == 3) wrong.serial++;
         if (field == 4) wrong.index++; /* a record that was never used */
@@ -450,6 +477,30 @@ static void foreign_allocations(void) {
     IS(pilhangko_vulkan_free(&other, &others), PILHANGKO_OK);
     IS(pilhangko_vulkan_destroy(&other, NULL), PILHANGKO_OK);
     ends(&vulkan, 0);
+}
+
+/* An allocation of a binding that was destroyed isn't a later one's, though that may lie where the first one lay. */
+static void allocations_of_a_predecessor(void) {
+    const pilhangko_vulkan_request r = asks(100, 2, PILHANGKO_LOCATION_UNKNOWN);
+    pilhangko_vulkan vulkan = made();
+    const pilhangko_vulkan_allocation old = allocates(&vulkan, &r);
+    const void *const place = vulkan.opaque;
+    bool came_again = false;
+    ends(&vulkan, 1);
+    for (unsigned i = 0; i < 50; i++) {
+        bool live = true;
+        vulkan = made();
+        came_again |= vulkan.opaque == place;
+        const pilhangko_vulkan_allocation young = allocates(&vulkan, &r);
+        CHECK(young.serial == old.serial && young.index == old.index && young.memory == old.memory && young.owner > old.owner);
+        IS(pilhangko_vulkan_is_live(&vulkan, &old, &live), PILHANGKO_OK);
+        CHECK(!live && pilhangko_vulkan_mapped(&vulkan, &old) == NULL);
+        IS(pilhangko_vulkan_free(&vulkan, &old), PILHANGKO_NOT_LIVE);
+        IS(pilhangko_vulkan_rename(&vulkan, &old, "old"), PILHANGKO_NOT_LIVE);
+        IS(pilhangko_vulkan_free(&vulkan, &young), PILHANGKO_OK);
+        ends(&vulkan, 0);
+    }
+    printf("a later binding %s where an earlier one lay\n", came_again ? "lay" : "never lay");
 }
 
 /* An allocation that was freed stays refused, also where another one has the same piece. */
@@ -734,21 +785,55 @@ static void captures_by_hand(void) {
     is_refused(&vulkan, &own, PILHANGKO_DRIVER_REFUSED, VK_ERROR_DEVICE_LOST);
     IS(pilhangko_vulkan_rename(&vulkan, &a, NULL), PILHANGKO_OK);
     IS(pilhangko_vulkan_set_budget(&vulkan, 3, true, UINT64_MAX), PILHANGKO_OK);
-    IS(pilhangko_vulkan_set_budget(&vulkan, 3, false, 5), PILHANGKO_OK);
     IS(pilhangko_vulkan_free(&vulkan, &a), PILHANGKO_OK);
     IS(pilhangko_vulkan_free(&vulkan, &a), PILHANGKO_NOT_LIVE);
     CHECK(written.length == 0); /* nothing before the end */
     IS(pilhangko_vulkan_end_capture(&vulkan, &capture), PILHANGKO_OK);
     CHECK(capture.end == PILHANGKO_VULKAN_CAPTURE_WHOLE && capture.bytes == written.length);
     is_written(DEVICE_LINES "refuse 2 null\nrefuse 5 -4\nnew\nalloc 1 100 4 6 CpuToGpu linear managed two_words__\n"
-                            "alloc 2 10 4 1 GpuOnly linear managed row\nrename 1 _\nbudget 3 18446744073709551615\nbudget 3 none\n"
-                            "free 1\n");
+                            "alloc 2 10 4 1 GpuOnly linear managed row\nrename 1 _\nfree 1\nbudget 3 18446744073709551615\n");
     IS(pilhangko_vulkan_end_capture(&vulkan, &capture), PILHANGKO_VULKAN_NO_CAPTURE);
     (void)allocates(&vulkan, &r);
     ends(&vulkan, 1);
     vulkan = captured(sizeof written.bytes);
     IS(pilhangko_vulkan_destroy(&vulkan, NULL), PILHANGKO_OK);
     is_written(DEVICE_LINES "new\ndestroy\n");
+}
+
+/* Bounds are in a capture where they change, and of several before an allocation the last: an update each frame doesn't fill it. */
+static void captured_budgets(void) {
+    const pilhangko_vulkan_request r = asks(100, 1, PILHANGKO_LOCATION_GPU_ONLY);
+    pilhangko_vulkan_settings settings = fake_settings();
+    pilhangko_vulkan vulkan = {0};
+    fake_begin();
+    written.length = 0;
+    written.room = sizeof written.bytes;
+    settings.capture_write = takes;
+    settings.capture_user = &written;
+    settings.memory_budget = true;
+    IS(pilhangko_vulkan_create(&vulkan, &settings), PILHANGKO_OK);
+    for (unsigned frame = 0; frame < 100000; frame++) {
+        fake.budget = 64 * MB + frame; /* another each frame, and then the same */
+        if (frame >= 100) fake.budget = 100 * MB;
+        IS(pilhangko_vulkan_update_budgets(&vulkan), PILHANGKO_OK);
+    }
+    const pilhangko_vulkan_allocation a = allocates(&vulkan, &r), b = allocates(&vulkan, &r);
+    IS(pilhangko_vulkan_set_budget(&vulkan, 1, true, 7), PILHANGKO_OK); /* there and back */
+    IS(pilhangko_vulkan_set_budget(&vulkan, 1, true, 100 * MB - 1), PILHANGKO_OK);
+    IS(pilhangko_vulkan_set_budget(&vulkan, 2, false, 9), PILHANGKO_OK);
+    IS(pilhangko_vulkan_set_budget(&vulkan, 4, true, 9), PILHANGKO_OK);
+    IS(pilhangko_vulkan_set_budget(&vulkan, 4, true, 10), PILHANGKO_OK);
+    IS(pilhangko_vulkan_set_budget(&vulkan, 5, true, 10), PILHANGKO_NO_SUCH_TYPE);
+    IS(pilhangko_vulkan_free(&vulkan, &a), PILHANGKO_OK);
+    const pilhangko_vulkan_allocation c = allocates(&vulkan, &r);
+    IS(pilhangko_vulkan_set_budget(&vulkan, 0, false, 0), PILHANGKO_OK);
+    IS(pilhangko_vulkan_free(&vulkan, &b), PILHANGKO_OK);
+    IS(pilhangko_vulkan_free(&vulkan, &c), PILHANGKO_OK);
+    IS(pilhangko_vulkan_destroy(&vulkan, NULL), PILHANGKO_OK);
+    is_written(DEVICE_LINES "new\nbudget 0 104857600\nbudget 1 104857599\nbudget 2 104857598\nbudget 3 104857599\nbudget 4 104857599\n"
+                            "alloc 1 100 4 1 GpuOnly linear managed row\nalloc 2 100 4 1 GpuOnly linear managed row\nfree 1\n"
+                            "budget 2 none\nbudget 4 10\nalloc 3 100 4 1 GpuOnly linear managed row\nfree 2\nfree 3\nbudget 0 none\n"
+                            "destroy\n");
 }
 
 /* The capture of pairs of an allocation and its free, each with a number of its own: it goes on to `end` in whole lines. Returns how many
@@ -803,18 +888,21 @@ int main(void) {
     resource_rows(VK_API_VERSION_1_1);
     settings_rows();
     loaders();
+    texts();
     creations();
     empty_handles_and_null();
     invalid_requests();
     invalid_resources();
     causes_without_a_question();
     foreign_allocations();
+    allocations_of_a_predecessor();
     stale_allocations();
     readings();
     driver_refusals();
     each_question_refused();
     each_host_request_refused();
     captures_by_hand();
+    captured_budgets();
     too_long_captures();
     unwritten_captures();
     return 0;

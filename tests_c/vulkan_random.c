@@ -25,7 +25,8 @@ static struct live live[LIVE];
 static size_t live_count;
 static pilhangko_vulkan_allocation stale[STALE];
 static uint64_t last_serial;
-static FILE *replies; /* what the captured calls came to, or NULL */
+static FILE *replies;                                    /* what the captured calls came to, or NULL */
+static pilhangko_budget captured_budgets[ACCOUNT_TYPES]; /* as the capture has them by now */
 static unsigned allocated, made, refused, second_attempts, freed, not_live, renamed, flushed, shared_after_all;
 
 static const char *const names[] = {NULL, "", "vertices", "a name that takes host memory of its own", "\xc3\xa9t\xc3\xa9 2",
@@ -42,8 +43,18 @@ static void reply(const char *line) {
     if (replies) fprintf(replies, "%s\n", line);
 }
 
+/* Before an allocation and at the end the capture has those bounds that are others than before. */
+static void reply_budgets(void) {
+    for (size_t i = 0; i < account.type_count; i++) {
+        const pilhangko_budget now = {account.types[i].has_budget, account.types[i].has_budget ? account.types[i].budget : 0};
+        if (now.exists != captured_budgets[i].exists || now.bytes != captured_budgets[i].bytes) reply("ok");
+        captured_budgets[i] = now;
+    }
+}
+
 static void reply_allocation(const pilhangko_allocator_piece *p, bool dedicated) {
     char line[200];
+    reply_budgets();
     snprintf(line, sizeof line, "ok type %zu slot %zu offset %llu size %llu chunk %llu dedicated %s mapped %s", p->memory_type,
         p->piece.slot, (unsigned long long)p->piece.offset, (unsigned long long)p->piece.size, (unsigned long long)p->piece.number,
         word_of(dedicated), word_of(p->mapped));
@@ -54,6 +65,7 @@ static void reply_allocation(const pilhangko_allocator_piece *p, bool dedicated)
 static void reply_refusal(pilhangko_status status) {
     char line[32];
     if (status == PILHANGKO_INVALID) return;
+    reply_budgets();
     snprintf(line, sizeof line, "error E%u", status == PILHANGKO_DRIVER_REFUSED ? 6 : status);
     reply(line);
 }
@@ -183,7 +195,7 @@ static void allocates(void) {
     pilhangko_allocator_request asks = {request.requirements.size, alignment, request.requirements.memoryTypeBits, request.kind,
         request.location, PILHANGKO_SCHEME_MANAGED, 0};
     struct live it = {
-        {VK_NULL_HANDLE, 1, 2, true, {3, false, {4, 5, 6, 7, 8}}, NULL, 9, 10}, VK_NULL_HANDLE, VK_NULL_HANDLE, alignment, request.kind};
+        {VK_NULL_HANDLE, 1, 2, true, {3, false, {4, 5, 6, 7, 8}}, 11, 9, 10}, VK_NULL_HANDLE, VK_NULL_HANDLE, alignment, request.kind};
     uint64_t first = fake.questions;
     struct foretold f = foretell(&asks, "", first);
     pilhangko_vulkan_result result = pilhangko_vulkan_allocate(&vulkan, &request, &it.allocation);
@@ -384,7 +396,6 @@ static void sets_budget(void) {
     if (type < account.type_count) {
         account.types[type].has_budget = has;
         account.types[type].budget = bytes;
-        reply("ok");
     }
     IS(pilhangko_vulkan_budget(&vulkan, type, &told), PILHANGKO_OK);
     CHECK(told.exists == (type < account.type_count && has) && told.bytes == (told.exists ? bytes : 0));
@@ -402,7 +413,6 @@ static void updates_budgets(void) {
         account.types[i].budget = type_capacity(&account.types[i]) + left;
         IS(pilhangko_vulkan_budget(&vulkan, i, &told), PILHANGKO_OK);
         CHECK(told.exists && told.bytes == account.types[i].budget);
-        reply("ok");
     }
 }
 
@@ -467,6 +477,7 @@ static void begins(FILE *capture) {
     settings.capture_user = capture;
     live_count = last_serial = 0;
     memset(stale, 0, sizeof stale);
+    memset(captured_budgets, 0, sizeof captured_budgets);
     account.type_count = 5;
     account.awaits_answer = false;
     for (size_t i = 0; i < 5; i++) {
@@ -490,6 +501,7 @@ static void ends(void) {
     IS(pilhangko_vulkan_destroy(&vulkan, &ending), PILHANGKO_OK);
     CHECK(ending.leaks == live_count && fake.memory_count == 0);
     CHECK(ending.capture.end == (replies ? PILHANGKO_VULKAN_CAPTURE_WHOLE : PILHANGKO_VULKAN_CAPTURE_NONE));
+    reply_budgets();
     reply("held 0");
     for (size_t i = 0; i < live_count; i++) { /* the buffers and images of the leaks */
         if (live[i].buffer) fake_destroy_buffer((VkDevice)(uintptr_t)2, live[i].buffer, NULL);

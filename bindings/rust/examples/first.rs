@@ -3,15 +3,12 @@
 #[path = "support/vulkan.rs"]
 mod vulkan;
 
-use pilhangko::vulkan::{AllocationCreateDesc, AllocationScheme, Allocator, AllocatorCreateDesc, MemoryRequirements};
-use pilhangko::MemoryLocation;
+use pilhangko::vulkan::{
+    AllocationCreateDesc, AllocationScheme, Allocator, AllocatorCreateDesc, Device, MemoryRequirements,
+};
+use pilhangko::{MemoryLocation, Result};
 
-fn main() -> Result<(), Box<dyn std::error::Error>> {
-    let Some(vulkan) = vulkan::Vulkan::open() else {
-        println!("no Vulkan device here");
-        return Ok(());
-    };
-    let device = vulkan.device();
+fn upload(device: Device) -> Result<()> {
     let mut allocator = Allocator::new(&AllocatorCreateDesc::new(device))?;
     let mut upload = allocator.allocate(&AllocationCreateDesc {
         name: "upload buffer",
@@ -20,8 +17,18 @@ fn main() -> Result<(), Box<dyn std::error::Error>> {
         linear: true,
         allocation_scheme: AllocationScheme::GpuAllocatorManaged,
     })?;
-    upload.mapped_slice_mut().ok_or("uploads are mapped")?.fill(7);
+    upload.mapped_slice_mut().expect("uploads are mapped").fill(7);
     println!("{} bytes at offset {} of their block", upload.size(), upload.offset());
     allocator.free(upload)?;
     Ok(())
+}
+
+fn main() -> Result<()> {
+    match vulkan::Vulkan::open() {
+        Some(vulkan) => upload(vulkan.device()),
+        None => {
+            println!("no Vulkan device here");
+            Ok(())
+        }
+    }
 }

@@ -70,7 +70,7 @@ impl Renderer<'_> {
         assert!(bytes.iter().all(|&byte| byte == placed.pattern), "another resource wrote here");
         self.vulkan.destroy(placed.resource);
         self.replies.push("ok".to_owned());
-        self.allocator.free(placed.allocation)
+        Ok(self.allocator.free(placed.allocation)?)
     }
 
     fn run(&mut self) -> Result<()> {

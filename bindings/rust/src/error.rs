@@ -1,5 +1,7 @@
 //! Why a call is refused.
 
+use crate::raw;
+use crate::vulkan::Allocation;
 use std::collections::TryReserveError;
 use std::error::Error;
 use std::fmt;
@@ -99,6 +101,14 @@ impl fmt::Display for AllocationError {
 
 impl Error for AllocationError {}
 
+/// What `vulkan::Allocator::free` refuses, without the allocation that it hands back: `?` drops that one, which then leaks in its own
+/// allocator.
+impl From<(AllocationError, Allocation)> for AllocationError {
+    fn from((error, _): (AllocationError, Allocation)) -> Self {
+        error
+    }
+}
+
 impl From<TryReserveError> for AllocationError {
     fn from(_: TryReserveError) -> Self {
         AllocationError::HostOutOfMemory
@@ -113,6 +123,12 @@ pub(crate) const fn internal(text: &'static str) -> AllocationError {
 /// Why a device with more than 32 memory types is refused.
 pub(crate) const TOO_MANY_TYPES: &str = "more than 32 memory types.";
 
+/// Why a device with more than 16 memory heaps is refused.
+pub(crate) const TOO_MANY_HEAPS: &str = "more than 16 memory heaps.";
+
+/// Why a device with an odd `nonCoherentAtomSize` is refused.
+pub(crate) const INVALID_ATOM_SIZE: &str = "non-coherent atom size is not a power of two.";
+
 /// A fault of a device.
 pub(crate) const fn invalid_device(text: &'static str) -> AllocationError {
     AllocationError::InvalidAllocatorCreateDesc(Fault { text, code: None })
@@ -121,18 +137,17 @@ pub(crate) const fn invalid_device(text: &'static str) -> AllocationError {
 /// What a status of the archive says. A status that no call in its place may return is a defect of the crate, and panics.
 pub(crate) fn check(status: u32) -> Result<()> {
     match status {
-        crate::raw::OK => Ok(()),
-        1 => Err(AllocationError::OutOfMemory),
-        3 => Err(AllocationError::NoCompatibleMemoryTypeFound),
-        4 => Err(AllocationError::InvalidAllocationCreateDesc),
-        5 => Err(invalid_device("buffer image granularity is not a power of two.")),
-        6 => Err(internal("Allocation does not belong to this allocator.")),
-        10 => Err(AllocationError::HostOutOfMemory),
-        11 => Err(AllocationError::BudgetExceeded),
-        13 => Err(internal("No such memory type.")),
-        14 => Err(invalid_device(TOO_MANY_TYPES)),
-        15 => Err(invalid_device("memory type with a heap index out of range.")),
-        102 => Err(internal("A block is awaited.")),
+        raw::OK => Ok(()),
+        raw::OUT_OF_MEMORY => Err(AllocationError::OutOfMemory),
+        raw::NO_MEMORY_TYPE => Err(AllocationError::NoCompatibleMemoryTypeFound),
+        raw::INVALID => Err(AllocationError::InvalidAllocationCreateDesc),
+        raw::INVALID_DEVICE => Err(invalid_device("buffer image granularity is not a power of two.")),
+        raw::NOT_LIVE => Err(internal("Allocation does not belong to this allocator.")),
+        raw::HOST_OUT_OF_MEMORY => Err(AllocationError::HostOutOfMemory),
+        raw::BUDGET_EXCEEDED => Err(AllocationError::BudgetExceeded),
+        raw::NO_SUCH_TYPE => Err(internal("No such memory type.")),
+        raw::NO_SUCH_HEAP => Err(invalid_device("memory type with a heap index out of range.")),
+        raw::AWAITS_BLOCK => Err(internal("A block is awaited.")),
         _ => panic!("libgpu_c.a returned the status {status} where it can't"),
     }
 }
@@ -140,7 +155,7 @@ pub(crate) fn check(status: u32) -> Result<()> {
 /// Looks at the status of a call that nothing refuses.
 #[track_caller]
 pub(crate) fn check_unrefused(status: u32) {
-    assert_eq!(status, crate::raw::OK, "libgpu_c.a refused a call that it never refuses");
+    assert_eq!(status, raw::OK, "libgpu_c.a refused a call that it never refuses");
 }
 
 /// A copy of a text, or `HostOutOfMemory`.

@@ -8,8 +8,8 @@
 //! contracts; this crate asks the driver, maps memory, and owns the handles. All of it may go from thread to thread, and serves
 //! one call at a time.
 //!
-//! The archive is for x86-64 processors with SSE4.2 on Linux. The build looks for it in the folder `PILHANGKO_LIB_DIR`, or else where the
-//! repository builds it.
+//! There is a library for Linux, Windows and macOS on x86-64 (with SSE4.2) and aarch64, and for Android on aarch64. The build takes the one in the
+//! folder `PILHANGKO_LIB_DIR`, or else the target's that a release has, or else the one that the repository has built.
 
 #![deny(unsafe_op_in_unsafe_fn, missing_docs)]
 

@@ -6,6 +6,18 @@ use std::ffi::c_void;
 use std::ptr;
 
 pub(crate) const OK: u32 = 0;
+pub(crate) const OUT_OF_MEMORY: u32 = 1;
+pub(crate) const FAILED_TO_MAP: u32 = 2;
+pub(crate) const NO_MEMORY_TYPE: u32 = 3;
+pub(crate) const INVALID: u32 = 4;
+pub(crate) const INVALID_DEVICE: u32 = 5;
+pub(crate) const NOT_LIVE: u32 = 6;
+pub(crate) const HOST_OUT_OF_MEMORY: u32 = 10;
+pub(crate) const BUDGET_EXCEEDED: u32 = 11;
+pub(crate) const DRIVER_REFUSED: u32 = 12;
+pub(crate) const NO_SUCH_TYPE: u32 = 13;
+pub(crate) const NO_SUCH_HEAP: u32 = 15;
+pub(crate) const AWAITS_BLOCK: u32 = 102;
 
 pub(crate) const KIND_LINEAR: u32 = 1;
 pub(crate) const KIND_NON_LINEAR: u32 = 2;

@@ -88,7 +88,6 @@ fn a_capture_is_what_was_asked() {
     let own = a.allocate(&own).unwrap();
     a.rename_allocation(&mut first, "größe").unwrap();
     a.set_budget(0, Some(8 * MB)).unwrap();
-    a.set_budget(0, None).unwrap();
     assert!(a.set_budget(7, None).is_err());
     a.free(Allocation::default()).unwrap();
     a.free(first).unwrap();
@@ -114,10 +113,8 @@ alloc 2 100 16 3 GpuOnly linear managed first
 alloc 3 100 16 3 GpuToCpu linear managed read_back
 alloc 4 50 16 3 GpuOnly nonlinear image:9 _
 rename 2 gr__e
-budget 0 8388608
-budget 0 none
-budget 7 none
 free 2
+budget 0 8388608
 alloc 5 10 16 3 Unknown linear buffer:18446744073709551615 b
 free 4
 destroy
@@ -135,13 +132,51 @@ destroy
         "ok",
         "ok",
         "ok",
-        "error E6",
-        "ok",
         "ok type 0 slot 2 offset 0 size 10 chunk 1 dedicated true mapped false",
         "ok",
         "held 0",
     ];
     assert_replays(&capture, &replies.map(str::to_owned));
+}
+
+#[test]
+fn budgets_are_captured_where_they_change_and_count() {
+    let driver = driver();
+    let mut a = Allocator::new(&described(&driver)).unwrap();
+    let commands = |a: &Allocator| {
+        let text = a.capture().expect("the run is captured").to_string();
+        text.split_once("new\n").expect("it begins").1.to_owned()
+    };
+    for frame in 0..100_000 {
+        a.set_budget(0, Some(50 * MB + frame.min(100))).unwrap(); // another each frame, and then the same
+        a.set_budget(1, Some(9 * MB)).unwrap();
+    }
+    assert_eq!(commands(&a), "budget 0 52428900\nbudget 1 9437184\n"); // as they are by now
+    let first = a.allocate(&request("a", 100, MemoryLocation::GpuOnly)).unwrap();
+    let second = a.allocate(&request("b", 100, MemoryLocation::GpuOnly)).unwrap();
+    a.set_budget(0, Some(5)).unwrap(); // there and back
+    a.set_budget(0, Some(50 * MB + 100)).unwrap();
+    a.set_budget(1, None).unwrap();
+    a.free(first).unwrap();
+    let third = a.allocate(&request("c", 100, MemoryLocation::GpuOnly)).unwrap();
+    a.set_budget(0, None).unwrap();
+    a.free(second).unwrap();
+    a.free(third).unwrap();
+    let expected = "\
+budget 0 52428900
+budget 1 9437184
+alloc 1 100 16 3 GpuOnly linear managed a
+alloc 2 100 16 3 GpuOnly linear managed b
+free 1
+budget 1 none
+alloc 3 100 16 3 GpuOnly linear managed c
+free 2
+free 3
+budget 0 none
+";
+    assert_eq!(commands(&a), expected);
+    let capture = a.destroy().unwrap();
+    assert_eq!(capture.to_string().split_once("new\n").unwrap().1, format!("{expected}destroy\n"));
 }
 
 #[test]
@@ -151,6 +186,7 @@ fn random_runs_replay_with_the_same_replies() {
         for number in 0..4000 {
             script.step(number);
         }
+        script.told_budgets();
         let Script { allocator, mut replies, live, driver, .. } = script;
         let report = allocator.generate_report();
         let capacity = allocator.capacity();

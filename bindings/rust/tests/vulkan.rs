@@ -234,14 +234,21 @@ fn budgets_bound_the_blocks_of_a_memory_type() {
 
 #[test]
 fn devices_that_make_no_sense_are_refused() {
-    let texts = |types: &[(u32, u32)], heaps: &[u64], granularity| {
-        let driver = FakeDriver::new(types, heaps, granularity);
+    let of_driver = |driver: Box<FakeDriver>| {
         Allocator::new(&AllocatorCreateDesc::new(driver.device())).err().map(|error| error.to_string())
     };
+    let texts =
+        |types: &[(u32, u32)], heaps: &[u64], granularity| of_driver(FakeDriver::new(types, heaps, granularity));
     let invalid = |text| Some(format!("Invalid AllocatorCreateDesc {text}"));
+    // each with its first cause, in the order of the C binding
+    let odd = |atom| FakeDriver::new(&[(1, 9); 33], &HEAPS, 48).with_heap_count(17).with_atoms(atom);
+    assert_eq!(of_driver(odd(0)), invalid("non-coherent atom size is not a power of two."));
+    assert_eq!(of_driver(odd(48)), invalid("non-coherent atom size is not a power of two."));
+    assert_eq!(of_driver(odd(64)), invalid("more than 32 memory types."));
+    let heaps = FakeDriver::new(&[(1, 9)], &HEAPS, 48).with_heap_count(17);
+    assert_eq!(of_driver(heaps), invalid("more than 16 memory heaps."));
+    assert_eq!(texts(&[(1, 9)], &HEAPS, 48), invalid("buffer image granularity is not a power of two."));
     assert_eq!(texts(&TYPES, &HEAPS, 0), invalid("buffer image granularity is not a power of two."));
-    assert_eq!(texts(&[(1, 0); 33], &HEAPS, 48), invalid("buffer image granularity is not a power of two."));
-    assert_eq!(texts(&[(1, 9); 33], &HEAPS, 1), invalid("more than 32 memory types."));
     assert_eq!(texts(&TYPES, &HEAPS[..2], 1), invalid("memory type with a heap index out of range."));
     assert_eq!(texts(&[(1, 0); 32], &HEAPS, 1), None);
     assert_eq!(texts(&[], &[], 1), None);
@@ -295,9 +302,16 @@ fn an_allocation_of_another_allocator_is_refused() {
     assert!(!b.is_live(&of_a) && a.is_live(&of_a));
     assert_eq!(b.rename_allocation(&mut of_a, "x").unwrap_err(), not_live);
     assert_eq!(of_a.name(), Some("piece"));
+    // what is refused comes back, and its own allocator frees it
+    let (error, of_a) = b.free(of_a).unwrap_err();
+    assert_eq!(error, not_live);
+    assert_eq!((place(&of_a), of_a.name()), ((0, 0, 0, 100, 2, false, false), Some("piece")));
+    assert!(a.is_live(&of_a) && b.is_live(&of_b));
+    a.free(of_a).unwrap();
+    assert_eq!(a.statistics().pieces, 0);
+    let of_a = a.allocate(&request(100, MemoryLocation::GpuOnly)).unwrap();
     drop(a);
-    assert_eq!(b.free(of_a).unwrap_err(), not_live);
-    assert!(b.is_live(&of_b));
+    assert_eq!(b.free(of_a).unwrap_err().0, not_live);
     b.free(of_b).unwrap();
     drop(b);
     yours.assert_left_empty();
@@ -331,6 +345,43 @@ fn reports_show_pieces_and_blocks_in_order() {
     assert_eq!(rows, [("", 0, 400), ("second", 1000, 500)]);
     assert_eq!(report.blocks[1].allocations, 2..2);
     drop((second, left));
+}
+
+/// As `?` does in a function that returns `AllocationError`.
+#[test]
+fn what_free_refuses_is_an_error() {
+    fn frees(allocator: &mut Allocator, allocation: Allocation) -> pilhangko::Result<()> {
+        Ok(allocator.free(allocation)?)
+    }
+    let (mine, yours) = (driver(), driver());
+    let (mut a, mut b) = (made(&mine), made(&yours));
+    let of_a = a.allocate(&request(100, MemoryLocation::GpuOnly)).unwrap();
+    assert!(matches!(frees(&mut b, of_a), Err(AllocationError::Internal(_))));
+    let of_a = a.allocate(&request(100, MemoryLocation::GpuOnly)).unwrap();
+    assert_eq!(frees(&mut a, of_a), Ok(()));
+}
+
+/// The device, memory types and requests of the C binding's rows (tests_c/vulkan_binding.c), and the same places.
+#[test]
+fn allocations_that_may_need_flushes_lie_in_whole_atoms() {
+    let types = [(1, 0), (6, 1), (7, 2), (10, 1), (14, 1)];
+    let driver = FakeDriver::new(&types, &[1 << 30, 1 << 29, 24 * MB], 1024).with_atoms(64);
+    let sizes = AllocationSizes::new(4 * MB, 4 * MB).with_max_host_memblock_size(8 * MB);
+    let desc = AllocatorCreateDesc { allocation_sizes: sizes, ..AllocatorCreateDesc::new(driver.device()) };
+    let mut a = Allocator::new(&desc).unwrap();
+    let mut placed = |size, alignment, memory_type_bits, location| {
+        let requirements = MemoryRequirements { size, alignment, memory_type_bits };
+        let it = a.allocate(&AllocationCreateDesc { requirements, ..request(1, location) });
+        it.map(|it| (it.memory_type_index(), it.memory_block_index(), it.offset(), it.size()))
+    };
+    assert_eq!(placed(100, 4, 31, MemoryLocation::GpuOnly), Ok((0, 0, 0, 100)));
+    assert_eq!(placed(100, 4, 31, MemoryLocation::GpuOnly), Ok((0, 0, 128, 100))); // memory type 3 is allowed too
+    assert_eq!(placed(100, 4, 1, MemoryLocation::GpuOnly), Ok((0, 0, 228, 100))); // here it isn't
+    assert_eq!(placed(100, 4, 8, MemoryLocation::Unknown), Ok((3, 0, 0, 100)));
+    assert_eq!(placed(100, 4, 8, MemoryLocation::Unknown), Ok((3, 0, 128, 100)));
+    assert_eq!(placed(100, 256, 8, MemoryLocation::Unknown), Ok((3, 0, 256, 100)));
+    assert_eq!(placed(100, 48, 8, MemoryLocation::Unknown), Err(AllocationError::InvalidAllocationCreateDesc));
+    assert_eq!(placed(100, 0, 8, MemoryLocation::Unknown), Err(AllocationError::InvalidAllocationCreateDesc));
 }
 
 /// The lines that a logger was handed.
@@ -413,6 +464,37 @@ fn what_is_asked_for_is_logged() {
         "Freeing `<null>`.",
     ];
     assert_eq!(*lines.lock().unwrap(), expected.map(|line| (Level::Debug, line.to_owned())));
+}
+
+/// A logger that takes no line at all.
+fn panicking() -> Logger {
+    Logger::new(|_, line| panic!("no line is wanted: {line}"))
+}
+
+fn panics(call: impl FnOnce()) -> bool {
+    std::panic::catch_unwind(std::panic::AssertUnwindSafe(call)).is_err()
+}
+
+#[test]
+fn blocks_go_back_where_the_logger_panics_at_a_leak() {
+    let driver = driver();
+    let mut a = Allocator::new(&AllocatorCreateDesc { logger: Some(panicking()), ..described(&driver) }).unwrap();
+    let _leaks = [MemoryLocation::GpuOnly, MemoryLocation::CpuToGpu].map(|it| a.allocate(&request(100, it)).unwrap());
+    assert_eq!(driver.state().held.len(), 2);
+    assert!(panics(|| drop(a)));
+    driver.assert_left_empty();
+}
+
+#[test]
+fn an_allocation_is_freed_where_the_logger_panics_at_its_line() {
+    let driver = driver();
+    let debug_settings = AllocatorDebugSettings { log_frees: true, ..AllocatorDebugSettings::default() };
+    let desc = AllocatorCreateDesc { logger: Some(panicking()), debug_settings, ..described(&driver) };
+    let mut a = Allocator::new(&desc).unwrap();
+    let own = AllocationCreateDesc { name: "b", ..request(9 * MB, MemoryLocation::GpuOnly) };
+    let own = a.allocate(&own).unwrap();
+    assert!(panics(|| a.free(own).unwrap()));
+    assert_eq!((a.statistics(), driver.state().held.len()), (TypeStatistics { slots: 1, ..Default::default() }, 0));
 }
 
 #[test]

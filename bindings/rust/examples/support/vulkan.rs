@@ -1,21 +1,59 @@
-//! A Vulkan device for examples and tests, by the loader `libvulkan.so.1`: instance with the validation layer where it is installed, a
+//! A Vulkan device for examples and tests, by Vulkan's loader: instance with the validation layer where it is installed, a
 //! messenger that counts what it says, a device, buffers and images. A program of yours has a binding for all of this.
 #![allow(dead_code, missing_docs)]
 
 use pilhangko::vulkan::{
-    Allocation, Buffer, Device, DeviceFunctions, DeviceMemory, Image, MemoryRequirements,
+    Allocation, Buffer, Device, DeviceFunctions, DeviceLimits, DeviceMemory, Image, MemoryRequirements,
     PhysicalDeviceMemoryProperties, VoidFunction,
 };
-use std::ffi::{c_char, c_int, c_void, CStr};
+use std::ffi::{c_char, c_void, CStr};
 use std::mem::{transmute, transmute_copy};
 use std::ptr::{null, null_mut};
 use std::sync::atomic::{AtomicUsize, Ordering};
 
 const VALIDATION_LAYER: &CStr = c"VK_LAYER_KHRONOS_validation";
 
-unsafe extern "C" {
-    fn dlopen(name: *const c_char, flags: c_int) -> *mut c_void;
-    fn dlsym(library: *mut c_void, name: *const c_char) -> *mut c_void;
+/// The loader's function of that name; null where there is no loader.
+#[cfg(unix)]
+fn loader_function(name: &CStr) -> *mut c_void {
+    unsafe extern "C" {
+        fn dlopen(name: *const c_char, flags: i32) -> *mut c_void;
+        fn dlsym(library: *mut c_void, name: *const c_char) -> *mut c_void;
+    }
+    const LOADER: &CStr = if cfg!(target_os = "macos") {
+        c"libvulkan.1.dylib"
+    } else if cfg!(target_os = "android") {
+        c"libvulkan.so"
+    } else {
+        c"libvulkan.so.1"
+    };
+    // SAFETY: the loader may be opened.
+    unsafe {
+        let library = dlopen(LOADER.as_ptr(), 2);
+        if library.is_null() {
+            null_mut()
+        } else {
+            dlsym(library, name.as_ptr())
+        }
+    }
+}
+
+/// The loader's function of that name; null where there is no loader.
+#[cfg(windows)]
+fn loader_function(name: &CStr) -> *mut c_void {
+    unsafe extern "system" {
+        fn LoadLibraryA(name: *const c_char) -> *mut c_void;
+        fn GetProcAddress(library: *mut c_void, name: *const c_char) -> *mut c_void;
+    }
+    // SAFETY: the loader may be opened.
+    unsafe {
+        let library = LoadLibraryA(c"vulkan-1.dll".as_ptr());
+        if library.is_null() {
+            null_mut()
+        } else {
+            GetProcAddress(library, name.as_ptr())
+        }
+    }
 }
 
 type Handle = *mut c_void;
@@ -73,7 +111,7 @@ struct Message {
     text: *const c_char,
 }
 
-/// `VkPhysicalDeviceProperties`, of which the name and one limit are read.
+/// `VkPhysicalDeviceProperties`, of which the name and two limits are read.
 #[repr(C)]
 struct PhysicalDeviceProperties {
     numbers: [u32; 5],
@@ -82,7 +120,9 @@ struct PhysicalDeviceProperties {
     padding: u32,
     first_limits: [u32; 11],
     buffer_image_granularity: u64,
-    rest: [u64; 59],
+    more_limits: [u64; 55],
+    non_coherent_atom_size: u64,
+    rest: [u64; 3],
 }
 
 #[repr(C)]
@@ -166,7 +206,7 @@ pub struct Vulkan {
     messenger: u64,
     physical_device: Handle,
     device: Handle,
-    granularity: u64,
+    limits: DeviceLimits,
     messages: Box<AtomicUsize>,
 }
 
@@ -178,13 +218,9 @@ fn succeeded(code: i32) {
 impl Vulkan {
     /// An instance and the first device; `None` where there is no loader, no driver or no device.
     pub fn open() -> Option<Self> {
-        // SAFETY: the loader may be opened; its function of this name has this type.
-        let find: GetProcAddr = unsafe {
-            let library = dlopen(c"libvulkan.so.1".as_ptr(), 2);
-            let function =
-                if library.is_null() { null_mut() } else { dlsym(library, c"vkGetInstanceProcAddr".as_ptr()) };
-            transmute::<*mut c_void, Option<GetProcAddr>>(function)?
-        };
+        let function = loader_function(c"vkGetInstanceProcAddr");
+        // SAFETY: the loader's function of this name has this type.
+        let find = unsafe { transmute::<*mut c_void, Option<GetProcAddr>>(function)? };
         let mut vulkan = Vulkan {
             device_name: String::new(),
             validates: false,
@@ -193,7 +229,7 @@ impl Vulkan {
             messenger: 0,
             physical_device: null_mut(),
             device: null_mut(),
-            granularity: 1,
+            limits: DeviceLimits { buffer_image_granularity: 1, non_coherent_atom_size: 1 },
             messages: Box::default(),
         };
         vulkan.validates = vulkan.has_validation();
@@ -293,7 +329,8 @@ impl Vulkan {
             let mut properties: PhysicalDeviceProperties = std::mem::zeroed();
             tell(self.physical_device, &mut properties);
             self.device_name = CStr::from_ptr(properties.name.as_ptr()).to_string_lossy().into_owned();
-            self.granularity = properties.buffer_image_granularity;
+            let PhysicalDeviceProperties { buffer_image_granularity, non_coherent_atom_size, .. } = properties;
+            self.limits = DeviceLimits { buffer_image_granularity, non_coherent_atom_size };
         }
         Some(())
     }
@@ -330,7 +367,7 @@ impl Vulkan {
             tell(self.physical_device, &mut properties);
             let find: GetProcAddr = self.function(c"vkGetDeviceProcAddr");
             let functions = DeviceFunctions::load(|name| find(self.device, name.as_ptr()));
-            Device::new(self.device as u64, functions.expect("Vulkan 1.0 has them"), properties, self.granularity)
+            Device::new(self.device as u64, functions.expect("Vulkan 1.0 has them"), properties, self.limits)
         }
     }
 

@@ -7,10 +7,10 @@ use super::capture::Capture;
 use super::device::{Answer, Device, Memory, Refusal};
 use super::machine::{Machine, Progress, Question};
 use super::reading;
-use crate::error::{check, copied, invalid_device, TOO_MANY_TYPES};
+use crate::error::{check, copied};
 use crate::memory_type::BlockStatistics;
 use crate::pieces::Visited;
-use crate::raw::AllocatorPiece;
+use crate::raw::{AllocatorPiece, DRIVER_REFUSED, FAILED_TO_MAP};
 use crate::{
     AllocationError, AllocationSizes, AllocatorDebugSettings, AllocatorReport, Fault, Level, Logger, MemoryLocation,
     NamedPiece, Result,
@@ -18,12 +18,6 @@ use crate::{
 use std::alloc::{handle_alloc_error, Layout};
 use std::fmt;
 use std::sync::atomic::{AtomicU64, Ordering};
-
-/// The archive's status of memory that the driver refused with a code of its own.
-const DRIVER_REFUSED: u32 = 12;
-
-/// The archive's status of memory that the driver didn't map.
-const FAILED_TO_MAP: u32 = 2;
 
 /// What memory is made for.
 #[derive(Clone, Copy, Debug, PartialEq, Eq)]
@@ -129,7 +123,6 @@ fn next_block_number() -> u64 {
 /// gives all blocks back to the driver and logs the allocations that are live still.
 pub struct Allocator {
     machine: Machine,
-    device: Device,
     blocks: Blocks,
     requests: u64,
     sizes: AllocationSizes,
@@ -141,20 +134,16 @@ pub struct Allocator {
 impl Allocator {
     /// An allocator without blocks; the driver isn't asked.
     ///
-    /// The errors: `InvalidAllocatorCreateDesc` for the first that holds of a granularity that is no power of two, more than 32 memory
-    /// types and a memory type in a heap that isn't there; `HostOutOfMemory`.
+    /// The errors: `InvalidAllocatorCreateDesc` for the first that holds of an atom size that is no power of two, more than 32 memory types,
+    /// more than 16 heaps, a granularity that is no power of two and a memory type in a heap that isn't there; `HostOutOfMemory`.
     pub fn new(desc: &AllocatorCreateDesc) -> Result<Self> {
         let AllocatorCreateDesc { device, allocation_sizes, .. } = desc;
-        // the library can't be told of so many; it would refuse them behind an odd page size and before a heap that isn't there
-        if device.has_too_many_types() && device.buffer_image_granularity().is_power_of_two() {
-            return Err(invalid_device(TOO_MANY_TYPES));
-        }
+        device.check()?;
         let allocator = Allocator {
             machine: Machine::new(device, allocation_sizes, desc.buffer_device_address)?,
-            blocks: Blocks::new(device.memory_types().len())?,
+            blocks: Blocks::new(device)?,
             requests: 0,
             capture: desc.capture.then(|| Capture::new(device, allocation_sizes)).transpose()?,
-            device: device.clone(),
             sizes: *allocation_sizes,
             debug_settings: desc.debug_settings,
             logger: desc.logger.clone(),
@@ -164,7 +153,8 @@ impl Allocator {
     }
 
     /// Allocates a piece: of a shared block with a place, or of a new one that the driver is asked for. An upload (`CpuToGpu`) whose first
-    /// memory type is refused has a second attempt at the first one that the host can write.
+    /// memory type is refused has a second attempt at the first one that the host can write. Where a memory type that the request allows
+    /// needs flushes, the alignment is `nonCoherentAtomSize` at least, so that a flush touches no other allocation.
     ///
     /// The errors, the first that holds: `InvalidAllocationCreateDesc`, `NoCompatibleMemoryTypeFound`, and of the attempt that counts
     /// `OutOfMemory` where the request is larger than its heap, `HostOutOfMemory`, `OutOfMemory` where the blocks' sizes would pass
@@ -172,12 +162,14 @@ impl Allocator {
     /// code, `FailedToMap`. Lack of host memory for the binding's own lists is `HostOutOfMemory` before all of them.
     pub fn allocate(&mut self, desc: &AllocationCreateDesc<'_>) -> Result<Allocation> {
         self.log_request(desc);
+        let requirements = self.device().in_whole_atoms(desc.requirements);
+        let desc = AllocationCreateDesc { requirements, ..desc.clone() };
         self.requests += 1;
-        let result = self.serve(desc);
+        let result = self.serve(&desc);
         if let Some(capture) = &mut self.capture {
             match result {
                 Err(AllocationError::HostOutOfMemory) => capture.undo(),
-                _ => capture.allocated(self.requests, desc),
+                _ => capture.allocated(self.requests, &desc),
             }
         }
         result
@@ -186,18 +178,26 @@ impl Allocator {
     /// Frees an allocation; its block goes back to the driver where it is left empty and isn't the only shared one of its memory type. It
     /// needs no host memory. The null allocation is freed without effect.
     ///
-    /// The error: `Internal` where it isn't this allocator's.
-    pub fn free(&mut self, allocation: Allocation) -> Result<()> {
+    /// The error: `Internal` where it isn't this allocator's, beside the allocation, which its own allocator frees.
+    #[allow(clippy::result_large_err, reason = "what is refused comes back")]
+    pub fn free(&mut self, mut allocation: Allocation) -> Result<(), (AllocationError, Allocation)> {
+        let result = self.release(&mut allocation);
+        // behind the work, so that nothing is lost where the logger panics
         self.log_free(&allocation);
-        let Some(held) = allocation.held else { return Ok(()) };
+        result.map_err(|error| (error, allocation))
+    }
+
+    /// Frees what an allocation holds, and leaves it null but for its name.
+    fn release(&mut self, allocation: &mut Allocation) -> Result<()> {
+        let Some(held) = &allocation.held else { return Ok(()) };
+        let (memory_type, slot) = (held.piece.memory_type, held.piece.piece.slot);
         let is_block_gone = self.machine.free(&held.piece)?;
         if let Some(capture) = &mut self.capture {
             capture.freed(held.number);
         }
+        allocation.held = None;
         if is_block_gone {
-            if let Some(block) = self.blocks.take(held.piece.memory_type, held.piece.piece.slot) {
-                self.device.give_back(block.memory);
-            }
+            self.blocks.give_back(memory_type, slot);
         }
         Ok(())
     }
@@ -227,11 +227,11 @@ impl Allocator {
     ///
     /// The error: `Internal` where there is no such memory type.
     pub fn set_budget(&mut self, memory_type: usize, budget: Option<u64>) -> Result<()> {
-        let result = self.machine.set_budget(memory_type, budget);
+        self.machine.set_budget(memory_type, budget)?;
         if let Some(capture) = &mut self.capture {
             capture.budgeted(memory_type, budget);
         }
-        result
+        Ok(())
     }
 
     /// The bound of a memory type in bytes; `None` where it has none, or isn't there.
@@ -293,7 +293,7 @@ impl Allocator {
 
     /// The device that is asked for memory.
     pub fn device(&self) -> &Device {
-        &self.device
+        self.blocks.device()
     }
 
     /// What was asked of the allocator by now, where that is recorded.
@@ -340,7 +340,7 @@ impl Allocator {
     }
 
     fn ask(&mut self, question: &Question) -> Answer {
-        let answer = self.device.ask(question);
+        let answer = self.device().ask(question);
         if let Some(capture) = &mut self.capture {
             capture.asked(question.mapped, &answer);
         }
@@ -367,7 +367,7 @@ impl Allocator {
             number: self.requests,
             memory: self.blocks.block(memory_type, slot).memory.handle,
             address: self.blocks.address(memory_type, slot, piece.piece.offset),
-            flags: self.device.memory_types()[memory_type].property_flags,
+            flags: self.device().memory_types()[memory_type].property_flags,
             is_dedicated: scheme != AllocationScheme::GpuAllocatorManaged,
         }
     }
@@ -379,7 +379,7 @@ impl Allocator {
     }
 
     fn log_device(&self) {
-        let (types, heaps) = (self.device.memory_types(), self.device.memory_heaps());
+        let (types, heaps) = (self.device().memory_types(), self.device().memory_heaps());
         let is_wanted = self.debug_settings.log_memory_information;
         self.log(is_wanted, format_args!("memory type count: {}", types.len()));
         self.log(is_wanted, format_args!("memory heap count: {}", heaps.len()));
@@ -431,13 +431,11 @@ impl fmt::Debug for Allocator {
     }
 }
 
+/// The blocks go back behind the lines, also where the logger panics.
 impl Drop for Allocator {
     fn drop(&mut self) {
         if self.debug_settings.log_leaks_on_shutdown {
             self.report_memory_leaks(Level::Warn);
-        }
-        for block in self.blocks.take_all() {
-            self.device.give_back(block.memory);
         }
     }
 }
@@ -446,7 +444,9 @@ impl Drop for Allocator {
 mod tests {
     use super::*;
     use crate::refused::common::script::Script;
+    use crate::refused::common::FakeDriver;
     use std::sync::Mutex;
+    use std::time::Instant;
 
     /// The lines that are logged of leaks, and the library's own texts of them.
     fn leaks(allocator: &mut Allocator) -> (Vec<String>, Vec<String>) {
@@ -474,5 +474,37 @@ mod tests {
         for (line, text) in logged.iter().zip(&texts) {
             assert_eq!(line, text.trim_end());
         }
+    }
+
+    /// What the crate does at each block doesn't grow with how many there are: 20,000 take about the library's own time.
+    #[test]
+    fn many_blocks_are_as_quick_as_the_library() {
+        let driver = FakeDriver::new(&[(1, 0)], &[1 << 40], 1);
+        let own = AllocationCreateDesc {
+            name: "own",
+            requirements: MemoryRequirements { size: 256, alignment: 1, memory_type_bits: 1 },
+            location: MemoryLocation::GpuOnly,
+            linear: true,
+            allocation_scheme: AllocationScheme::DedicatedBuffer(Buffer(1)),
+        };
+        let begin = Instant::now();
+        let mut machine = Machine::new(&driver.device(), &AllocationSizes::default(), false).unwrap();
+        for number in 1..=20_000 {
+            assert!(matches!(machine.begin(&own), Ok(Progress::Question(_))));
+            machine.granted(number);
+        }
+        let alone = begin.elapsed();
+        drop(machine);
+        let begin = Instant::now();
+        let mut allocator = Allocator::new(&AllocatorCreateDesc::new(driver.device())).unwrap();
+        let live: Vec<Allocation> = (0..20_000).map(|_| allocator.allocate(&own).unwrap()).collect();
+        let whole = begin.elapsed();
+        assert!(
+            whole.as_secs_f64() < 4.0 * alone.as_secs_f64() + 2.0,
+            "{whole:?}, of which {alone:?} are the library's"
+        );
+        live.into_iter().for_each(|it| allocator.free(it).unwrap());
+        drop(allocator);
+        driver.assert_left_empty();
     }
 }

@@ -1,6 +1,6 @@
 //! The driver's memory behind an allocator's blocks, by memory type and slot.
 
-use super::device::{Address, Memory};
+use super::device::{Address, Device, Memory};
 use crate::Result;
 use std::iter;
 
@@ -12,54 +12,68 @@ pub(super) struct Block {
     pub(super) is_shared: bool,
 }
 
-/// The live blocks.
+/// The blocks of a memory type by slot.
+#[derive(Debug, Default)]
+struct Slots {
+    blocks: Vec<Option<Block>>,
+    shared_count: usize,
+}
+
+/// The live blocks of a device. Dropping them gives them back to the driver, whatever else fails.
 #[derive(Debug)]
 pub(super) struct Blocks {
-    types: Vec<Vec<Option<Block>>>,
+    device: Device,
+    types: Vec<Slots>,
 }
 
 impl Blocks {
-    /// None, of so many memory types.
-    pub(super) fn new(type_count: usize) -> Result<Self> {
+    /// None, of each memory type of a device.
+    pub(super) fn new(device: &Device) -> Result<Self> {
+        let type_count = device.memory_types().len();
         let mut types = Vec::new();
         types.try_reserve_exact(type_count)?;
-        types.extend(iter::repeat_with(Vec::new).take(type_count));
-        Ok(Blocks { types })
+        types.extend(iter::repeat_with(Slots::default).take(type_count));
+        Ok(Blocks { device: device.clone(), types })
+    }
+
+    /// The device.
+    pub(super) fn device(&self) -> &Device {
+        &self.device
     }
 
     /// Makes room for one more block of each memory type, so that nothing can fail once the driver is asked.
     pub(super) fn reserve(&mut self) -> Result<()> {
-        self.types.iter_mut().try_for_each(|slots| Ok(slots.try_reserve(1)?))
+        self.types.iter_mut().try_for_each(|slots| Ok(slots.blocks.try_reserve(1)?))
     }
 
     /// Puts a block in an empty slot; there is room.
     pub(super) fn install(&mut self, memory_type: usize, slot: usize, block: Block) {
         let slots = &mut self.types[memory_type];
-        if slot == slots.len() {
-            slots.push(Some(block));
+        slots.shared_count += usize::from(block.is_shared);
+        if slot == slots.blocks.len() {
+            slots.blocks.push(Some(block));
         } else {
-            slots[slot] = Some(block);
+            slots.blocks[slot] = Some(block);
+        }
+    }
+
+    /// Gives the block in a slot back to the driver.
+    pub(super) fn give_back(&mut self, memory_type: usize, slot: usize) {
+        let slots = &mut self.types[memory_type];
+        if let Some(block) = slots.blocks[slot].take() {
+            slots.shared_count -= usize::from(block.is_shared);
+            self.device.give_back(block.memory);
         }
     }
 
     /// The block in a slot, where a live piece lies.
     pub(super) fn block(&self, memory_type: usize, slot: usize) -> &Block {
-        self.types[memory_type][slot].as_ref().expect("a live piece lies in a live block")
-    }
-
-    /// Takes the block out of a slot.
-    pub(super) fn take(&mut self, memory_type: usize, slot: usize) -> Option<Block> {
-        self.types[memory_type][slot].take()
-    }
-
-    /// Takes out all blocks.
-    pub(super) fn take_all(&mut self) -> impl Iterator<Item = Block> + '_ {
-        self.types.iter_mut().flat_map(|slots| slots.drain(..)).flatten()
+        self.types[memory_type].blocks[slot].as_ref().expect("a live piece lies in a live block")
     }
 
     /// How many shared blocks a memory type has.
     pub(super) fn shared_count(&self, memory_type: usize) -> usize {
-        self.types[memory_type].iter().flatten().filter(|block| block.is_shared).count()
+        self.types[memory_type].shared_count
     }
 
     /// Where the host sees the first byte of a piece, if it does.
@@ -72,8 +86,16 @@ impl Blocks {
     /// The live blocks by memory type and slot.
     pub(super) fn iter(&self) -> impl Iterator<Item = (usize, usize, &Block)> {
         self.types.iter().enumerate().flat_map(|(memory_type, slots)| {
-            let live = slots.iter().enumerate();
+            let live = slots.blocks.iter().enumerate();
             live.filter_map(move |(slot, block)| Some((memory_type, slot, block.as_ref()?)))
         })
+    }
+}
+
+impl Drop for Blocks {
+    fn drop(&mut self) {
+        for block in self.types.iter().flat_map(|slots| &slots.blocks).flatten() {
+            self.device.give_back(block.memory);
+        }
     }
 }

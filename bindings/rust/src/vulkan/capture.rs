@@ -33,8 +33,9 @@ pub enum CaptureEnd {
 /// What was asked of an allocator since it was made, and what its driver refused, as a device trace: `gpu_trace` replays it over a
 /// simulated device, with the same memory types, slots, places and causes of refusal. `Display` prints the trace.
 ///
-/// Allocations, frees, renamings and budgets are recorded. Null allocations, allocations of other allocators and requests that the host had
-/// no memory for are left out: they change nothing. A name is brought into a trace's alphabet: `_` stands for other characters and for an
+/// Allocations, frees and renamings are recorded, and budgets where an allocation finds them, or the end: of several that were set in turn the
+/// last, where it is another than before. Null allocations, allocations of other allocators and requests that the host had no memory for are
+/// left out: they change nothing. A name is brought into a trace's alphabet: `_` stands for other characters and for an
 /// empty name, and it is cut at 64 bytes.
 #[derive(Clone, Debug)]
 pub struct Capture {
@@ -43,7 +44,17 @@ pub struct Capture {
     commands: Lines,
     asked: u64,
     last_whole: Mark,
+    budgets: Vec<Budget>,
+    /// A command for each budget that is another than the commands have.
+    new_budgets: Lines,
     end: CaptureEnd,
+}
+
+/// The budget of a memory type, now and by the commands.
+#[derive(Clone, Copy, Debug, Default)]
+struct Budget {
+    now: Option<u64>,
+    recorded: Option<u64>,
 }
 
 /// Up to where whole calls are recorded.
@@ -58,6 +69,9 @@ impl Capture {
     /// The capture of an allocator that is made.
     pub(super) fn new(device: &Device, sizes: &AllocationSizes) -> Result<Self> {
         let mut capture = Capture::blank();
+        let type_count = device.memory_types().len();
+        capture.budgets.try_reserve_exact(type_count)?;
+        capture.budgets.resize(type_count, Budget::default());
         capture.describe(device, sizes).map_err(|NoRoom| AllocationError::HostOutOfMemory)?;
         Ok(capture)
     }
@@ -70,6 +84,8 @@ impl Capture {
             commands: Lines::default(),
             asked: 0,
             last_whole: Mark::default(),
+            budgets: Vec::new(),
+            new_budgets: Lines::default(),
             end: CaptureEnd::Whole,
         }
     }
@@ -82,7 +98,7 @@ impl Capture {
             let (flags, heap) = (memory_type.property_flags.0, memory_type.heap_index);
             self.settings.push(format_args!("type {flags} {heap}"))?;
         }
-        self.settings.push(format_args!("granularity {}", device.buffer_image_granularity()))?;
+        self.settings.push(format_args!("granularity {}", device.limits().buffer_image_granularity))?;
         let sizes = sizes.parts();
         let (first, largest) = ((sizes.device, sizes.host), (sizes.largest_device, sizes.largest_host));
         self.settings.push(format_args!("sizes {} {} {} {}", first.0, first.1, largest.0, largest.1))
@@ -116,7 +132,9 @@ impl Capture {
         let (location, name) = (desc.location, TraceName(desc.name));
         let kind = if desc.linear { "linear" } else { "nonlinear" };
         let scheme = Scheme(desc.allocation_scheme);
-        self.record(format_args!("alloc {number} {size} {alignment} {bits} {location:?} {kind} {scheme} {name}"));
+        self.record_behind_budgets(format_args!(
+            "alloc {number} {size} {alignment} {bits} {location:?} {kind} {scheme} {name}"
+        ));
     }
 
     /// Forgets what the driver was asked since the last call: the host had no memory for this one.
@@ -136,25 +154,56 @@ impl Capture {
         self.record(format_args!("rename {number} {}", TraceName(name)));
     }
 
-    /// Records that a budget is set, or taken away.
+    /// Notes that a budget is set, or taken away. It counts where something is allocated, and is recorded then, or at the end.
     pub(super) fn budgeted(&mut self, memory_type: usize, budget: Option<u64>) {
-        match budget {
-            Some(bytes) => self.record(format_args!("budget {memory_type} {bytes}")),
-            None => self.record(format_args!("budget {memory_type} none")),
+        if self.end == CaptureEnd::Whole {
+            self.budgets[memory_type].now = budget;
+            let written = self.write_new_budgets();
+            self.go_on(written);
         }
+    }
+
+    fn write_new_budgets(&mut self) -> Result<(), NoRoom> {
+        self.new_budgets.truncate(0);
+        for (memory_type, budget) in self.budgets.iter().enumerate().filter(|(_, it)| it.now != it.recorded) {
+            match budget.now {
+                Some(bytes) => self.new_budgets.push(format_args!("budget {memory_type} {bytes}"))?,
+                None => self.new_budgets.push(format_args!("budget {memory_type} none"))?,
+            }
+        }
+        Ok(())
+    }
+
+    /// Makes commands of the new budgets.
+    fn record_new_budgets(&mut self) -> Result<(), NoRoom> {
+        self.commands.append(&self.new_budgets)?;
+        self.new_budgets.truncate(0);
+        self.budgets.iter_mut().for_each(|it| it.recorded = it.now);
+        Ok(())
     }
 
     /// Records that the allocator goes.
     pub(super) fn destroyed(&mut self) {
-        self.record(format_args!("destroy"));
+        self.record_behind_budgets(format_args!("destroy"));
     }
 
     fn record(&mut self, line: fmt::Arguments<'_>) {
         if self.end == CaptureEnd::Whole {
             let written = self.commands.push(line);
-            self.go_on(written);
-            self.keep();
+            self.end_call(written);
         }
+    }
+
+    fn record_behind_budgets(&mut self, line: fmt::Arguments<'_>) {
+        if self.end == CaptureEnd::Whole {
+            let written = self.record_new_budgets().and_then(|()| self.commands.push(line));
+            self.end_call(written);
+        }
+    }
+
+    fn end_call(&mut self, written: Result<(), NoRoom>) {
+        self.go_on(written);
+        self.keep();
     }
 
     /// What is recorded by now is the last whole call.
@@ -172,6 +221,7 @@ impl Capture {
             Ok(()) if self.length() > LONGEST_TRACE => CaptureEnd::TooLong,
             Ok(()) => return,
         };
+        self.new_budgets.truncate(0);
         self.cut();
     }
 
@@ -184,7 +234,8 @@ impl Capture {
     /// The length of the trace with the longest line that may end it.
     fn length(&self) -> usize {
         let longest_end = TOO_LONG.len().max(NO_MEMORY.len()) + 1;
-        self.settings.len() + self.refusals.len() + NEW.len() + 1 + self.commands.len() + longest_end
+        let commands = self.commands.len() + self.new_budgets.len();
+        self.settings.len() + self.refusals.len() + NEW.len() + 1 + commands + longest_end
     }
 
     /// How far it goes.
@@ -200,7 +251,7 @@ impl Capture {
             CaptureEnd::HostOutOfMemory => Some(NO_MEMORY),
         };
         let before = self.settings.lines().chain(self.refusals.lines());
-        before.chain(iter::once(NEW)).chain(self.commands.lines()).chain(end)
+        before.chain(iter::once(NEW)).chain(self.commands.lines()).chain(self.new_budgets.lines()).chain(end)
     }
 
     /// Writes the trace.
@@ -228,6 +279,10 @@ struct NoRoom;
 impl Lines {
     fn push(&mut self, line: fmt::Arguments<'_>) -> Result<(), NoRoom> {
         writeln!(self, "{line}").map_err(|fmt::Error| NoRoom)
+    }
+
+    fn append(&mut self, lines: &Lines) -> Result<(), NoRoom> {
+        self.write_str(&lines.0).map_err(|fmt::Error| NoRoom)
     }
 
     fn len(&self) -> usize {

@@ -2,13 +2,24 @@
 
 use super::abi::{
     Buffer, DeviceFunctions, DeviceMemory, Image, MemoryAllocateFlagsInfo, MemoryAllocateInfo,
-    MemoryDedicatedAllocateInfo, MemoryHeap, MemoryType, PhysicalDeviceMemoryProperties, OUT_OF_DEVICE_MEMORY, SUCCESS,
-    WHOLE_SIZE,
+    MemoryDedicatedAllocateInfo, MemoryHeap, MemoryPropertyFlags, MemoryRequirements, MemoryType,
+    PhysicalDeviceMemoryProperties, OUT_OF_DEVICE_MEMORY, SUCCESS, WHOLE_SIZE,
 };
 use super::machine::Question;
 use super::AllocationScheme;
+use crate::error::{invalid_device, INVALID_ATOM_SIZE, TOO_MANY_HEAPS, TOO_MANY_TYPES};
+use crate::Result;
 use std::ffi::c_void;
 use std::ptr::{self, NonNull};
+
+/// Two limits of a device, by their names in `VkPhysicalDeviceLimits`.
+#[derive(Clone, Copy, Debug, PartialEq, Eq)]
+pub struct DeviceLimits {
+    /// `bufferImageGranularity`: the size in bytes of a page that buffers and images may not share.
+    pub buffer_image_granularity: u64,
+    /// `nonCoherentAtomSize`: the unit in bytes of what is flushed and invalidated.
+    pub non_coherent_atom_size: u64,
+}
 
 /// A Vulkan device as an allocator needs it: the handle, four functions, and what the physical device says of its memory. Clones stand for
 /// the same device.
@@ -17,18 +28,18 @@ pub struct Device {
     handle: u64,
     functions: DeviceFunctions,
     memory_properties: PhysicalDeviceMemoryProperties,
-    buffer_image_granularity: u64,
+    limits: DeviceLimits,
 }
 
 impl Device {
     /// A device by its `VkDevice` as a number (ash: `device.handle().as_raw()`), its functions, what
-    /// `vkGetPhysicalDeviceMemoryProperties` says, and its limit `bufferImageGranularity`.
+    /// `vkGetPhysicalDeviceMemoryProperties` says, and two of its limits.
     ///
     /// # Safety
     ///
     /// The caller promises, as long as an allocator over the device or over a clone of it lives:
     /// - the `VkDevice` is live, and the functions are its own;
-    /// - the memory properties are those of its physical device;
+    /// - the memory properties and the limits are those of its physical device;
     /// - the buffers and images that requests name (`AllocationScheme`) are live ones of the device, and bufferDeviceAddress is enabled
     ///   where an allocator is made with it;
     /// - no one else frees, maps or unmaps memory that an allocator asked for.
@@ -39,9 +50,9 @@ impl Device {
         handle: u64,
         functions: DeviceFunctions,
         memory_properties: PhysicalDeviceMemoryProperties,
-        buffer_image_granularity: u64,
+        limits: DeviceLimits,
     ) -> Self {
-        Device { handle, functions, memory_properties, buffer_image_granularity }
+        Device { handle, functions, memory_properties, limits }
     }
 
     /// The memory types.
@@ -56,14 +67,39 @@ impl Device {
         &all[..all.len().min(self.memory_properties.memory_heap_count as usize)]
     }
 
-    /// The size in bytes of a page that buffers and images may not share.
-    pub fn buffer_image_granularity(&self) -> u64 {
-        self.buffer_image_granularity
+    /// Its limits.
+    pub fn limits(&self) -> DeviceLimits {
+        self.limits
     }
 
-    /// Whether it says that it has more memory types than there is room for in what says so.
-    pub(super) fn has_too_many_types(&self) -> bool {
-        self.memory_properties.memory_type_count as usize > self.memory_properties.memory_types.len()
+    /// Refuses what the library can't be told of, or isn't: more memory types or heaps than there is room for in what says so, and an atom
+    /// size that is no power of two.
+    pub(super) fn check(&self) -> Result<()> {
+        let PhysicalDeviceMemoryProperties { memory_type_count, memory_types, memory_heap_count, memory_heaps } =
+            &self.memory_properties;
+        if !self.limits.non_coherent_atom_size.is_power_of_two() {
+            Err(invalid_device(INVALID_ATOM_SIZE))
+        } else if *memory_type_count as usize > memory_types.len() {
+            Err(invalid_device(TOO_MANY_TYPES))
+        } else if *memory_heap_count as usize > memory_heaps.len() {
+            Err(invalid_device(TOO_MANY_HEAPS))
+        } else {
+            Ok(())
+        }
+    }
+
+    /// What a request needs, aligned to whole atoms where a memory type that it allows needs flushes: a flush then touches no other
+    /// allocation. An alignment that is no power of two stays, to be refused.
+    pub(super) fn in_whole_atoms(&self, needs: MemoryRequirements) -> MemoryRequirements {
+        let may_need_flushes = (0..).zip(self.memory_types()).any(|(index, memory_type): (u32, _)| {
+            needs.memory_type_bits >> index & 1 == 1 && needs_flushes(memory_type.property_flags)
+        });
+        if may_need_flushes && needs.alignment.is_power_of_two() {
+            let alignment = needs.alignment.max(self.limits.non_coherent_atom_size);
+            MemoryRequirements { alignment, ..needs }
+        } else {
+            needs
+        }
     }
 
     /// Asks the driver for the memory of a block, and to map it where it is to be mapped. Memory that it doesn't map goes back.
@@ -137,6 +173,11 @@ impl Device {
         // SAFETY: the device is live and the function its own (`new`); the memory is live and isn't used again.
         unsafe { (self.functions.free_memory)(self.as_ptr(), memory, ptr::null()) };
     }
+}
+
+/// Whether the host sees such memory, and the device doesn't see what the host wrote until it is flushed.
+fn needs_flushes(flags: MemoryPropertyFlags) -> bool {
+    flags.contains(MemoryPropertyFlags::HOST_VISIBLE) && !flags.contains(MemoryPropertyFlags::HOST_COHERENT)
 }
 
 /// What says that memory is for one buffer or image alone, where it is.

@@ -93,7 +93,7 @@ impl Machine {
     pub(super) fn new(device: &Device, sizes: &AllocationSizes, device_address: bool) -> Result<Self> {
         let (types, heaps, sizes) = (device.memory_types(), device.memory_heaps(), sizes.parts());
         let settings = raw::AllocatorSettings {
-            page_size: device.buffer_image_granularity(),
+            page_size: device.limits().buffer_image_granularity,
             device_block_size: sizes.device,
             largest_device_block_size: sizes.largest_device,
             host_block_size: sizes.host,

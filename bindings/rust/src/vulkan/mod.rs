@@ -3,16 +3,17 @@
 //!
 //! ```no_run
 //! use pilhangko::vulkan::{
-//!     AllocationCreateDesc, AllocationScheme, Allocator, AllocatorCreateDesc, Device, DeviceFunctions, MemoryRequirements,
-//!     PhysicalDeviceMemoryProperties, VoidFunction,
+//!     AllocationCreateDesc, AllocationScheme, Allocator, AllocatorCreateDesc, Device, DeviceFunctions, DeviceLimits,
+//!     MemoryRequirements, PhysicalDeviceMemoryProperties, VoidFunction,
 //! };
 //! use pilhangko::MemoryLocation;
 //! # fn function_of(_: &std::ffi::CStr) -> Option<VoidFunction> { None }
-//! # let (handle, properties, granularity) = (1, PhysicalDeviceMemoryProperties::default(), 1);
+//! # let (handle, properties, granularity, atom) = (1, PhysicalDeviceMemoryProperties::default(), 1, 1);
 //!
-//! // SAFETY: functions, properties and handle are those of one live device, which outlives the allocator.
+//! // SAFETY: functions, properties, limits and handle are those of one live device, which outlives the allocator.
 //! let functions = unsafe { DeviceFunctions::load(function_of) }.expect("Vulkan 1.0 has these functions");
-//! let device = unsafe { Device::new(handle, functions, properties, granularity) };
+//! let limits = DeviceLimits { buffer_image_granularity: granularity, non_coherent_atom_size: atom };
+//! let device = unsafe { Device::new(handle, functions, properties, limits) };
 //! let mut allocator = Allocator::new(&AllocatorCreateDesc::new(device))?;
 //! let mut upload = allocator.allocate(&AllocationCreateDesc {
 //!     name: "upload buffer",
@@ -43,4 +44,4 @@ pub use abi::{
 pub use allocation::Allocation;
 pub use allocator::{AllocationCreateDesc, AllocationScheme, Allocator, AllocatorCreateDesc, TypeStatistics};
 pub use capture::{Capture, CaptureEnd};
-pub use device::Device;
+pub use device::{Device, DeviceLimits};

@@ -34,6 +34,7 @@ pub struct Account {
     pub types: Vec<(u32, u32)>,
     pub heaps: Vec<u64>,
     pub page: u64,
+    pub atom: u64,
     pub sizes: AllocationSizes,
     pub budgets: Vec<Option<u64>>,
     /// Blocks by memory type and slot.
@@ -47,11 +48,12 @@ pub struct Met {
 }
 
 impl Account {
-    pub fn new(types: &[(u32, u32)], heaps: &[u64], page: u64, sizes: AllocationSizes) -> Self {
+    pub fn new(types: &[(u32, u32)], heaps: &[u64], page: u64, atom: u64, sizes: AllocationSizes) -> Self {
         Account {
             types: types.to_vec(),
             heaps: heaps.to_vec(),
             page,
+            atom,
             sizes,
             budgets: vec![None; types.len()],
             blocks: vec![Vec::new(); types.len()],
@@ -214,6 +216,9 @@ impl Account {
         let (offset, size) = (it.offset(), it.size());
         assert_eq!(size, desc.requirements.size);
         assert_eq!(offset % desc.requirements.alignment, 0);
+        let flags = self.types[it.memory_type_index()].0;
+        let needs_flushes = flags & (HOST_VISIBLE | HOST_COHERENT) == HOST_VISIBLE;
+        assert!(!needs_flushes || offset % self.atom == 0);
         assert_eq!(it.is_dedicated(), desc.allocation_scheme != AllocationScheme::GpuAllocatorManaged);
         let start = held.mapped.map(|bytes| bytes as u64 + offset);
         assert_eq!(it.mapped_ptr().map(|it| it.as_ptr() as u64), start);

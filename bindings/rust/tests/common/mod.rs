@@ -2,7 +2,7 @@
 #![allow(dead_code, missing_docs)]
 
 use pilhangko::vulkan::{
-    Buffer, Device, DeviceFunctions, DeviceMemory, Image, MemoryAllocateFlagsInfo, MemoryAllocateInfo,
+    Buffer, Device, DeviceFunctions, DeviceLimits, DeviceMemory, Image, MemoryAllocateFlagsInfo, MemoryAllocateInfo,
     MemoryDedicatedAllocateInfo, MemoryHeap, MemoryPropertyFlags, MemoryType, PhysicalDeviceMemoryProperties,
 };
 use std::alloc::{alloc_zeroed, dealloc, Layout};
@@ -127,11 +127,11 @@ fn layout(size: u64) -> Layout {
 pub struct FakeDriver {
     state: Mutex<State>,
     properties: PhysicalDeviceMemoryProperties,
-    granularity: u64,
+    limits: DeviceLimits,
 }
 
 impl FakeDriver {
-    /// A driver with these memory types (flags and heap) and heaps (size).
+    /// A driver with these memory types (flags and heap) and heaps (size), whose atoms are single bytes.
     pub fn new(types: &[(u32, u32)], heaps: &[u64], granularity: u64) -> Box<Self> {
         let mut properties = PhysicalDeviceMemoryProperties {
             memory_type_count: types.len() as u32,
@@ -144,13 +144,26 @@ impl FakeDriver {
         for (place, &size) in properties.memory_heaps.iter_mut().zip(heaps) {
             *place = MemoryHeap { size, flags: 0 };
         }
-        Box::new(FakeDriver { state: Mutex::default(), properties, granularity })
+        let limits = DeviceLimits { buffer_image_granularity: granularity, non_coherent_atom_size: 1 };
+        Box::new(FakeDriver { state: Mutex::default(), properties, limits })
+    }
+
+    /// The driver with atoms of this size.
+    pub fn with_atoms(mut self: Box<Self>, size: u64) -> Box<Self> {
+        self.limits.non_coherent_atom_size = size;
+        self
+    }
+
+    /// The driver, which says that it has so many heaps.
+    pub fn with_heap_count(mut self: Box<Self>, count: u32) -> Box<Self> {
+        self.properties.memory_heap_count = count;
+        self
     }
 
     pub fn device(&self) -> Device {
         let functions = DeviceFunctions { allocate_memory, free_memory, map_memory, unmap_memory };
         // SAFETY: tests keep a driver as long as its allocators.
-        unsafe { Device::new(ptr::from_ref(self) as u64, functions, self.properties, self.granularity) }
+        unsafe { Device::new(ptr::from_ref(self) as u64, functions, self.properties, self.limits) }
     }
 
     /// Where a test has failed while it looked, its allocator still gives its memory back.

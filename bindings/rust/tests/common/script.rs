@@ -10,9 +10,10 @@ use pilhangko::vulkan::{
 use pilhangko::{AllocationError, AllocationSizes, MemoryLocation, Result};
 use std::collections::BTreeMap;
 
-const TYPES: [(u32, u32); 5] = [(1, 0), (6, 1), (7, 2), (14, 1), (3, 0)];
+const TYPES: [(u32, u32); 6] = [(1, 0), (6, 1), (7, 2), (14, 1), (3, 0), (10, 1)];
 const HEAPS: [u64; 3] = [400 * MB, 200 * MB, 24 * MB];
 const PAGE: u64 = 1024;
+const ATOM: u64 = 256;
 
 /// Names of different lengths, some with characters that a trace hasn't.
 const NAMES: [&str; 5] = [
@@ -38,6 +39,8 @@ pub struct Script {
     /// How often each outcome came: error numbers, and 0 for success.
     pub outcomes: BTreeMap<u32, u64>,
     is_captured: bool,
+    /// The budgets as the capture has them by now.
+    captured_budgets: Vec<Option<u64>>,
 }
 
 /// Sizes: most are small, some larger than a block, few larger than a heap.
@@ -113,7 +116,7 @@ fn reply(result: &Result<Allocation>) -> Reply {
 
 impl Script {
     pub fn new(seed: u64, is_captured: bool) -> Self {
-        let driver = FakeDriver::new(&TYPES, &HEAPS, PAGE);
+        let driver = FakeDriver::new(&TYPES, &HEAPS, PAGE).with_atoms(ATOM);
         let sizes = AllocationSizes::new(8 * MB, 4 * MB).with_max_device_memblock_size(32 * MB);
         let desc = AllocatorCreateDesc {
             allocation_sizes: sizes,
@@ -123,13 +126,14 @@ impl Script {
         };
         Script {
             allocator: Allocator::new(&desc).expect("the device makes sense"),
-            account: Account::new(&TYPES, &HEAPS, PAGE, sizes),
+            account: Account::new(&TYPES, &HEAPS, PAGE, ATOM, sizes),
             random: Random(seed),
             live: Vec::new(),
             replies: vec!["ok".to_owned()],
             driver,
             outcomes: BTreeMap::new(),
             is_captured,
+            captured_budgets: vec![None; TYPES.len()],
         }
     }
 
@@ -137,6 +141,14 @@ impl Script {
         if self.is_captured {
             self.replies.push(reply);
         }
+    }
+
+    /// Before an allocation and at the end a capture has those budgets that are others than before.
+    pub fn told_budgets(&mut self) {
+        let budgets = self.account.budgets.clone();
+        let changed = budgets.iter().zip(&self.captured_budgets).filter(|(now, before)| now != before).count();
+        (0..changed).for_each(|_| self.told("ok".to_owned()));
+        self.captured_budgets = budgets;
     }
 
     /// Lets the driver refuse one of the next four questions, sometimes.
@@ -154,6 +166,7 @@ impl Script {
         self.driver.state().refused.clear();
         let result = self.allocator.allocate(&desc);
         let met = Met { refused: self.driver.state().refused.clone() };
+        self.told_budgets();
         self.told(reply(&result));
         *self.outcomes.entry(result.as_ref().map_or_else(AllocationError::number, |_| 0)).or_default() += 1;
         match result {
@@ -200,11 +213,9 @@ impl Script {
         let result = self.allocator.set_budget(memory_type, budget);
         if memory_type == TYPES.len() {
             assert!(matches!(result, Err(AllocationError::Internal(_))));
-            self.told("error E6".to_owned());
         } else {
             result.expect("the memory type is there");
             self.account.budgets[memory_type] = budget;
-            self.told("ok".to_owned());
         }
         let expected = self.account.budgets.get(memory_type).copied().flatten();
         assert_eq!(self.allocator.budget(memory_type), expected);
