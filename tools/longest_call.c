@@ -17,7 +17,7 @@ static uint64_t now(void) {
 
 static pilhangko_virtual_piece pieces[PIECES];
 
-static uint64_t longest_take(pilhangko_virtual_block *block, uint64_t *sum) {
+static uint64_t longest_allocate(pilhangko_virtual_block *block, uint64_t *sum) {
     uint64_t longest = 0;
     for (uint64_t i = 0; i < PIECES; i++) {
         pilhangko_virtual_request request = {64 + i % 4033, 1u << (i % 9), PILHANGKO_KIND_LINEAR};
@@ -49,7 +49,7 @@ int main(void) {
         pilhangko_virtual_block block = {0};
         uint64_t sum = 0, longest;
         if (pilhangko_virtual_block_create(&block, UINT64_C(1) << 30, 1) != PILHANGKO_OK) return 1;
-        longest = longest_take(&block, &sum);
+        longest = longest_allocate(&block, &sum);
         if (longest < take) take = longest;
         if (sum < takes) takes = sum;
         sum = 0;
@@ -58,7 +58,7 @@ int main(void) {
         if (sum < frees) frees = sum;
         pilhangko_virtual_block_destroy(&block);
     }
-    printf("the longest of %d takes %llu, of as many frees %llu; in the mean %llu and %llu\n", PIECES, (unsigned long long)take,
+    printf("the longest of %d allocations %llu, of as many frees %llu; in the mean %llu and %llu\n", PIECES, (unsigned long long)take,
         (unsigned long long)gone, (unsigned long long)(takes / PIECES), (unsigned long long)(frees / PIECES));
     return 0;
 }
