@@ -14,3 +14,4 @@ pub mod WithoutBudgets
 pub mod Giving
 pub mod Preparing
 pub mod Agreeing
+pub mod Beginning

@@ -90,7 +90,7 @@ module _ {H : Type 0} (eq : H → H → Bool) where
   live_below None slots i p at live = absurd live
   live_below (Some s) slots i p at live = some_below slots i s at
 
-  named_stay : (t : ℕ) (p : Piece H) (name : List ℕ) (old new : Slots H) → IsRenamed eq t p name old new → StayLive eq old new
+  pub named_stay : (t : ℕ) (p : Piece H) (name : List ℕ) (old new : Slots H) → IsRenamed eq t p name old new → StayLive eq old new
   named_stay t p name old new r u q live =
       let slots = slots_at old t in
       let below = live_below (slot_at slots p.slot) slots p.slot p refl r.live in

@@ -5,7 +5,8 @@ use Rattle.gpu_values.specs.declared.error.AllocationError.{AllocationError}
 use Rattle.std.proofs.lemmas.List.{length-map}
 use Rattle.gpu_values.specs.Sizes.{Sizes}
 use Rattle.gpu_core.specs.TypeState.{TypeState, Slot, capacity_of}
-use Rattle.gpu_core.specs.TypeTake.{asked, Pending, NeedsBlock, PreparesPiece, has_dedicated_block}
+use Rattle.gpu_block.specs.Block.{TakesIn}
+use Rattle.gpu_core.specs.TypeTake.{asked, Pending, NeedsBlock, PreparesPiece, has_dedicated_block, fresh_block}
 use Rattle.gpu_core.specs.declared.memory_type.Prepared.TheVariants as prepared
 use Rattle.gpu_core.specs.declared.need.NeedBlock.{NeedBlock}
 use Rattle.gpu_core.specs.declared.piece.Piece.{Piece}
@@ -17,11 +18,12 @@ use Rattle.gpu_core.specs.Types.{Types, slots_of, type_of, kinds}
 use Rattle.gpu_core.proofs.Budgets.{budget_is, sum_fits}
 use Rattle.gpu_core.proofs.Types.{slots_same, slots_here}
 use Rattle.gpu_pool.specs.Allocate.{RequestAt, request_at, type_asked, AllocatesShared}
+use Rattle.gpu_pool.specs.State.{kind_at}
 use Rattle.gpu_pool.proofs.TypeKinds.{kind_is}
 use Rattle.gpu_pool.specs.Begin.{NoneAsked, Asks, Denies, BeginsIn, Begins}
 use Rattle.gpu_pool.specs.declared.requests.Begun.{Begun}
 use Rattle.gpu_pool.specs.declared.requests.Begun.TheVariants as begun
-use Rattle.gpu_pool.specs.RequestState.{RequestState, requests_of, pool_of, CanAnswer}
+use Rattle.gpu_pool.specs.RequestState.{RequestState, requests_of, pool_of, CanAnswer, HoldsRequest}
 use Rattle.gpu_pool.specs.declared.requests.Awaited.{Awaited}
 
 module _ {H : Type 0} (sizes : Sizes) (t : ℕ) (r : Request) (types : Types H) (a : Option Awaited) (below : t < length types) where
@@ -89,7 +91,7 @@ module _ {H : Type 0} (sizes : Sizes) (t : ℕ) (r : Request) (types : Types H) 
       )
 
   module _ (need : NeedBlock) (mid : Types H) (h : PreparesAt t types sizes r (prepared.NeedBlock need) mid) (bs : budgets mid ≡ budgets types) (ks : kinds mid ≡ kinds types) where
-    waiting : slots_of mid ≡ slots_of types
+    pub waiting : slots_of mid ≡ slots_of types
     waiting = h.slots ∙ ap (slice_set (slots_of types) t) (h.prepares.2 ∙ slots_are) ∙ slots_same (slots_of types) t
 
     room_left : total_capacity (slots_of mid) + need.size < 2 ^ 64
@@ -110,17 +112,31 @@ module _ {H : Type 0} (sizes : Sizes) (t : ℕ) (r : Request) (types : Types H) 
       state = as_before mid awaits waiting bs ks;
     }
 
+    holds_request : HoldsRequest (type_of mid t).granularity need
+    holds_request =
+        let pages : here.granularity ≡ (type_of mid t).granularity = ap (λ (k : Bool × ℕ). k.1) (kind_is types t ∙ ap (λ (x : List (Bool × ℕ)). kind_at x t) (sym ks) ∙ sym (kind_is mid t)) in
+        let n = h.prepares.0 in
+        record {
+          request = asked r;
+          takes = subst (λ (g : ℕ). TakesIn (fresh_block need.dedicated need.size g) (asked r) need.room.offset need.room.chunk_id need.room.block) pages n.takes;
+          size = n.piece;
+          begins = n.begins;
+        }
+
     pub can_answer : t < length mid → CanAnswer mid awaits
-    can_answer there = (there, h.prepares.1, room_left)
+    can_answer there = (there, h.prepares.1, room_left, holds_request)
 
 -- ---- as the code comes to it
 
+pub inside : {H : Type 0} (now : RequestState H) (sizes : Sizes) (t : ℕ) (types : Types H) (a : Option Awaited) → requests_of sizes types a ≡ now → t < length now.kinds → t < length types
+inside {H} now sizes t types a view there =
+    let long = length-map {B = Bool × ℕ} types (λ (k : TypeState H). (k.is_host, k.granularity)) in
+    let alike = ap (λ (s : RequestState H). length s.kinds) view in
+    omega (arith, there, long, alike)
+
 module _ {H : Type 0} (now : RequestState H) (sizes : Sizes) (t : ℕ) (r : Request) (types : Types H) (a : Option Awaited) (view : requests_of sizes types a ≡ now) (there : t < length now.kinds) (shut : a ≡ None) where
-  pub inside : t < length types
-  inside =
-      let long = length-map {B = Bool × ℕ} types (λ (k : TypeState H). (k.is_host, k.granularity)) in
-      let alike = ap (λ (s : RequestState H). length s.kinds) view in
-      omega (arith, there, long, alike)
+  below_types : t < length types
+  below_types = inside now sizes t types a view there
 
   started : (result : Result (Begun H) AllocationError) (new : RequestState H) → BeginsIn (request_at t r tt) None (requests_of sizes types a) result new → Begins (request_at t r tt) now result new
   started result new h =
@@ -130,20 +146,20 @@ module _ {H : Type 0} (now : RequestState H) (sizes : Sizes) (t : ℕ) (r : Requ
   pub denied_at : (e : AllocationError) (new : Types H) → IsPrepareRefusal t types sizes r (refusal_of e) → slots_of new ≡ slots_of types → budgets new ≡ budgets types → kinds new ≡ kinds types
       → Begins (request_at t r tt) now (Err e) (requests_of sizes new a)
   denied_at e new cause ss bs ks =
-      started (Err e) (requests_of sizes new a) (denied sizes t r types a inside (refusal_of e) cause, as_before sizes t r types a inside new a ss bs ks)
+      started (Err e) (requests_of sizes new a) (denied sizes t r types a below_types (refusal_of e) cause, as_before sizes t r types a below_types new a ss bs ks)
 
   pub taken_at : (p : Piece H) (new : Types H) → PreparesAt t types sizes r (prepared.Taken p) new → budgets new ≡ budgets types → kinds new ≡ kinds types
       → Begins (request_at t r tt) now (Ok (begun.Piece p)) (requests_of sizes new a)
-  taken_at p new h bs ks = started (Ok (begun.Piece p)) (requests_of sizes new a) (taken sizes t r types a inside p new h bs ks)
+  taken_at p new h bs ks = started (Ok (begun.Piece p)) (requests_of sizes new a) (taken sizes t r types a below_types p new h bs ks)
 
   module _ (need : NeedBlock) (mid : Types H) (h : PreparesAt t types sizes r (prepared.NeedBlock need) mid) (bs : budgets mid ≡ budgets types) (ks : kinds mid ≡ kinds types) where
     pub asks_at : Begins (request_at t r tt) now (Ok (begun.Question (record { memory_type = t; size = need.size; dedicated = need.dedicated }))) (requests_of sizes mid (Some (record { memory_type = t; need = need })))
-    asks_at = started _ _ (asks sizes t r types a inside need mid h bs ks)
+    asks_at = started _ _ (asks sizes t r types a below_types need mid h bs ks)
 
     pub answers_at : CanAnswer mid (Some (record { memory_type = t; need = need }))
     answers_at =
         let long = length-map {B = Bool × ℕ} types (λ (k : TypeState H). (k.is_host, k.granularity)) in
         let after = length-map {B = Bool × ℕ} mid (λ (k : TypeState H). (k.is_host, k.granularity)) in
         let alike = ap (λ (x : List (Bool × ℕ)). length x) ks in
-        let was = inside in
-        can_answer sizes t r types a inside need mid h bs ks (omega (arith, was, long, after, alike))
+        let was = below_types in
+        can_answer sizes t r types a below_types need mid h bs ks (omega (arith, was, long, after, alike))

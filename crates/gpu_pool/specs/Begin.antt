@@ -1,15 +1,16 @@
 -- What a request leads to: a piece, a refusal, or a question; and what the answers to it do.
-use Rattle.std.specs.Prelude.{◌≡◌, ◌⊎◌, ℕ, Option, Some, None, Result, Ok, Err}
+use Rattle.std.specs.Prelude.{◌≡◌, ◌⊎◌, ℕ, ◌%◌, Bool, Option, Some, None, Result, Ok, Err}
 use Rattle.gpu_values.specs.Refusal.{Refusal, refusal_of, host_out_of_memory}
 use Rattle.gpu_values.specs.declared.error.AllocationError.{AllocationError}
 use Rattle.gpu_core.specs.declared.need.NeedBlock.{NeedBlock}
 use Rattle.gpu_core.specs.declared.piece.Piece.{Piece}
 use Rattle.gpu_core.specs.TypeState.{capacity_of}
 use Rattle.gpu_core.specs.TypeTake.{NeedsBlock}
-use Rattle.gpu_core.specs.Blocks.{slots_at, total_capacity}
+use Rattle.gpu_core.specs.Blocks.{Slots, slots_at, total_capacity}
 use Rattle.gpu_core.specs.Budgets.{budget_at, block_refusal}
 use Rattle.gpu_core.specs.Requests.{InstallsAt}
 use Rattle.gpu_pool.specs.Allocate.{RequestAt, type_asked, NeedsNewBlock, AllocatesShared}
+use Rattle.gpu_pool.specs.Live.{IsNewlyLive}
 use Rattle.gpu_pool.specs.RequestState.{RequestState, pool_of, IsRefused, answer_awaited, no_answer_awaited}
 use Rattle.gpu_pool.specs.declared.requests.Awaited.{Awaited}
 use Rattle.gpu_pool.specs.declared.requests.Begun.{Begun}
@@ -19,6 +20,10 @@ use Rattle.gpu_pool.specs.declared.requests.Question.{Question}
 -- no source is asked here
 abbrev pub NoneAsked : {H : Type 0} → Unit {0} → ℕ → ℕ → Unit {0} → Result H Refusal → Unit {0} → Type 0
 NoneAsked old t size extra answer new = Unit {0}
+
+-- what the source is asked for an awaited block
+abbrev pub question_of : Awaited → Question
+question_of a = record { memory_type = a.memory_type; size = a.need.size; dedicated = a.need.dedicated }
 
 module _ {H : Type 0} (q : RequestAt (Unit {0})) where
   -- the question for a new block that the request needs and its limits allow is open; nothing else changes
@@ -66,3 +71,18 @@ module _ {H : Type 0} where
   -- the block that was asked for isn't there
   abbrev pub Declines : RequestState H → Result (Unit {0}) AllocationError → RequestState H → Type 0
   Declines old result new = DeclinesIn old.awaited old result new
+
+-- ---- what requests make of live pieces
+
+module _ {H : Type 0} (eq : H → H → Bool) where
+  -- the piece is live, and none that was live before; it begins at a multiple of the alignment
+  abbrev pub Gives : (t alignment : ℕ) → (old new : Slots H) → Result (Begun H) AllocationError → Type 0
+  Gives t alignment old new (Ok (begun.Piece p)) = IsNewlyLive eq old new t p × (p.offset % alignment ≡ 0)
+  Gives t alignment old new (Ok (begun.Question question)) = Unit {0}
+  Gives t alignment old new (Err e) = Unit {0}
+
+  -- the piece in the block that was awaited is live, and none that was live before; it begins where its block does
+  abbrev pub GivesAwaited : Option Awaited → (old new : Slots H) → Result (Piece H) AllocationError → Type 0
+  GivesAwaited None old new result = Unit {0}
+  GivesAwaited (Some a) old new (Ok p) = IsNewlyLive eq old new a.memory_type p × (p.offset ≡ 0)
+  GivesAwaited (Some a) old new (Err e) = Unit {0}

@@ -3,7 +3,11 @@ use Rattle.std.specs.Prelude.{◌≡◌, ℕ, ◌+◌, ◌^◌, ◌<◌, Bool, L
 use Rattle.gpu_values.specs.Refusal.{Refusal, refusal_in, internal}
 use Rattle.gpu_values.specs.Sizes.{Sizes}
 use Rattle.gpu_values.specs.declared.error.AllocationError.{AllocationError}
+use Rattle.gpu_block.specs.Block.{TakesIn}
+use Rattle.gpu_block_pieces.specs.Request.{Request}
 use Rattle.gpu_core.specs.TypePrepare.{CanInstall}
+use Rattle.gpu_core.specs.TypeTake.{fresh_block}
+use Rattle.gpu_core.specs.declared.need.NeedBlock.{NeedBlock}
 use Rattle.gpu_core.specs.Blocks.{Slots, total_capacity}
 use Rattle.gpu_core.specs.Budgets.{Budgets, budgets}
 use Rattle.gpu_core.specs.Types.{Types, slots_of, type_of, kinds}
@@ -26,12 +30,19 @@ requests_of sizes types awaited = record { kinds = kinds types; sizes = sizes; s
 abbrev pub pool_of : {S H : Type 0} → S → RequestState H → pools.State S H
 pool_of source s = record { source = source; sizes = s.sizes; slots = s.slots; budgets = s.budgets }
 
+-- the block is a new one with a request's piece at its start
+pub record HoldsRequest (granularity : ℕ) (need : NeedBlock) : Type 0 where
+  pub request : Request
+  pub takes : TakesIn (fresh_block need.dedicated need.size granularity) request need.room.offset need.room.chunk_id need.room.block
+  pub size : need.room.size ≡ request.size
+  pub begins : need.room.offset ≡ 0
+
 -- a block can be put in where one is awaited
 abbrev pub CanAnswer : {H : Type 0} → Types H → Option Awaited → Type 0
 CanAnswer types None = Unit {0}
 CanAnswer types (Some a) =
     (a.memory_type < length types) × CanInstall (type_of types a.memory_type) a.need.size a.need.dedicated a.need.room
-    × (total_capacity (slots_of types) + a.need.size < 2 ^ 64)
+    × (total_capacity (slots_of types) + a.need.size < 2 ^ 64) × HoldsRequest (type_of types a.memory_type).granularity a.need
 
 -- ---- calls out of turn
 

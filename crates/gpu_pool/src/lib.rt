@@ -18,3 +18,4 @@ pub use handles::Handles;
 pub use pool::Pool;
 pub use requests::{Awaited, Begun, Question, Requests};
 pub use source::BlockSource;
+pub use turn::{answer_awaited, no_answer_awaited};

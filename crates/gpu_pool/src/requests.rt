@@ -2,13 +2,17 @@
 
 ghost use Rattle.std.specs.Prelude.{◌≡◌, ◌≢◌, ◌↔◌, ◌<◌, ℕ, None, length, IfOk, IsTrue, IsSome};
 ghost use Rattle.std.specs.Int.{is_power_of_two};
+ghost use Rattle.std.specs.Option.{option_map};
+ghost use Rattle.gpu_core.specs.declared.piece.Piece.{Piece};
+ghost use Rattle.gpu_core.specs.Apart.{AreDistinct};
 ghost use Rattle.gpu_core.specs.Blocks.{EachKeepsOneEmptyAtMost};
 ghost use Rattle.gpu_core.specs.Budgets.{budgets};
 ghost use Rattle.gpu_core.specs.Types.{slots_of, kinds};
 ghost use Rattle.gpu_pool.specs.Allocate.{request_at};
+ghost use Rattle.gpu_pool.specs.Live.{IsLive, StayLive};
 ghost use Rattle.gpu_pool.specs.State.{IsSoundAt};
 ghost use Rattle.gpu_pool.specs.RequestState.{requests_of};
-ghost use Rattle.gpu_pool.specs.Begin.{Begins, Grants, Declines};
+ghost use Rattle.gpu_pool.specs.Begin.{question_of, Begins, Grants, Declines, Gives, GivesAwaited};
 ghost use Rattle.gpu_pool.specs.Idle.{FreesIdle, RenamesIdle, SetsBudgetIdle};
 
 use crate::turn::{answer_awaited, no_answer_awaited};
@@ -85,6 +89,18 @@ impl<H: Copy + Eq> Requests<H> {
         self.awaited.is_some()
     }
 
+    /// The question that is open.
+    pub fn question(&self) -> Option<Question>
+        ensures { result ≡ option_map question_of self.now.awaited }
+    {
+        let awaited = self.awaited.as_ref()?;
+        Some(Question {
+            memory_type: awaited.memory_type,
+            size: awaited.need.size,
+            dedicated: awaited.need.dedicated,
+        })
+    }
+
     /// Begins a request at the memory type at `index`. The errors: `Internal` while a question is open, `HostOutOfMemory`, and
     /// `OutOfMemory` or `BudgetExceeded` where a new block isn't asked for. A refusal changes nothing. Where a new block is
     /// needed, the answer is the question for it, and all host memory for it is at hand.
@@ -94,6 +110,9 @@ impl<H: Copy + Eq> Requests<H> {
         requires aligned { IsTrue (is_power_of_two request.now.alignment) }
         requires piece { request.now.kind ≢ AllocationType.Free }
         ensures begins { Begins (request_at index request.now tt) self.old result self.new }
+        ensures gives { Gives H.eq index request.now.alignment self.old.slots self.new.slots
+            result }
+        ensures keeps { StayLive H.eq self.old.slots self.new.slots }
     {
         if let Some(_) = &self.awaited {
             return Err(answer_awaited());
@@ -119,6 +138,8 @@ impl<H: Copy + Eq> Requests<H> {
     /// question is open (`Internal`).
     pub fn granted(&mut self, handle: H) -> Result<Piece<H>>
         ensures grants { Grants self.old handle result self.new }
+        ensures gives { GivesAwaited H.eq self.old.awaited self.old.slots self.new.slots result }
+        ensures keeps { StayLive H.eq self.old.slots self.new.slots }
     {
         match self.awaited.take() {
             None => Err(no_answer_awaited()),
@@ -143,6 +164,8 @@ impl<H: Copy + Eq> Requests<H> {
     /// host memory. `Internal` where the piece isn't live, or a question is open; then nothing changes.
     pub fn free(&mut self, index: usize, piece: &Piece<H>) -> Result<Option<H>>
         ensures frees { FreesIdle H.eq self.old index piece.now result self.new }
+        ensures keeps { (t : ℕ) (p : Piece H) → IsLive H.eq self.old.slots t p
+            → AreDistinct t p index piece.now → IsLive H.eq self.new.slots t p }
     {
         if self.awaits_answer() {
             return Err(answer_awaited());
@@ -153,7 +176,8 @@ impl<H: Copy + Eq> Requests<H> {
     /// Renames a piece of the memory type at `index`. `Internal` where the piece isn't live, or a question is open, else
     /// `HostOutOfMemory`; then nothing changes.
     pub fn rename(&mut self, index: usize, piece: &Piece<H>, name: &str) -> Result<()>
-        ensures { RenamesIdle H.eq self.old index piece.now name.now result self.new }
+        ensures renames { RenamesIdle H.eq self.old index piece.now name.now result self.new }
+        ensures keeps { StayLive H.eq self.old.slots self.new.slots }
     {
         if self.awaits_answer() {
             return Err(answer_awaited());

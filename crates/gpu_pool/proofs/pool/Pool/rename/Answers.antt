@@ -38,7 +38,7 @@ module _ {S H : Type 0} (eq : H → H → Bool) (t : ℕ) (p : Piece H) (name : 
 
 renamed : (g : _) (c : After-rename g) → Left g.S.Handle.PartialEq.eq c.args.index c.args.piece.now c.args.name.now c.self.inside.source c.self.inside.requests c.rename.new.self c.self.invariant.0 c.rename.result
 renamed g c =
-    left g.S.Handle.PartialEq.eq c.args.index c.args.piece.now c.args.name.now c.self.inside.source c.self.inside.requests c.rename.new.self c.self.invariant.0 c.rename.result c.rename.ensures
+    left g.S.Handle.PartialEq.eq c.args.index c.args.piece.now c.args.name.now c.self.inside.source c.self.inside.requests c.rename.new.self c.self.invariant.0 c.rename.result c.rename.ensures.renames
 
 pub invariant_of-self : goal.invariant_of-self
 invariant_of-self g c =

@@ -10,6 +10,7 @@ use Rattle.gpu_core.specs.Types.{Types, slots_of, kinds}
 use Rattle.gpu_pool.specs.Idle.{RenamesIn, RenamesIdle}
 use Rattle.gpu_pool.specs.RequestState.{RequestState, requests_of}
 use Rattle.gpu_pool.specs.declared.requests.Awaited.{Awaited}
+use Rattle.gpu_pool.proofs.Beginning.{renamed_stay}
 use Rattle.gpu_pool.proofs.requests.Requests.rename.Goals as goal
 use Rattle.gpu_pool.proofs.requests.Requests.rename.Goals.{After-rename}
 
@@ -22,13 +23,20 @@ renames eq sizes t p name types new a (Err e) renamed cause refused ks bs = (cau
 closed : (g : _) (c : After-rename g) → c.self.inside.awaited ≡ None
 closed g c = search rules
 
-pub returns : goal.returns
-returns g c =
+named : (g : _) (c : After-rename g) → RenamesIdle g.H.PartialEq.eq c.args.self.now c.args.index c.args.piece.now c.args.name.now c.rename.result (requests_of c.self.inside.sizes c.rename.new.self c.self.inside.awaited)
+named g c =
     let i = c.self.inside in
     let a = c.args in
     let e = c.rename.ensures in
     let eq = g.H.PartialEq.eq in
     let new = requests_of i.sizes c.rename.new.self i.awaited in
     subst (λ (s : RequestState g.row.H.Denot). RenamesIdle eq s a.index a.piece.now a.name.now c.rename.result new) c.self.view_is
-    (subst (λ (o : Option Awaited). RenamesIn eq o (requests_of i.sizes i.types i.awaited) a.index a.piece.now a.name.now c.rename.result new) (sym (closed g (goal.at.returns g c).After-rename))
+    (subst (λ (o : Option Awaited). RenamesIn eq o (requests_of i.sizes i.types i.awaited) a.index a.piece.now a.name.now c.rename.result new) (sym (closed g c))
     (renames eq i.sizes a.index a.piece.now a.name.now i.types c.rename.new.self i.awaited c.rename.result e.renamed e.cause e.refused e.kinds e.budgets))
+
+pub returns : goal.returns
+returns g c =
+    let i = c.self.inside in
+    let a = c.args in
+    let r = named g (goal.at.returns g c).After-rename in
+    record { renames = r; keeps = renamed_stay g.H.PartialEq.eq a.self.now (requests_of i.sizes c.rename.new.self i.awaited) a.index a.piece.now a.name.now c.rename.result r }
