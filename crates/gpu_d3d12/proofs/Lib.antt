@@ -14,3 +14,4 @@ pub mod Creating
 pub mod Leaving
 pub mod OneStep
 pub mod WithoutBudgets
+pub mod Awaiting

@@ -49,6 +49,11 @@ code_refusal code = cond (int_eq code (neg_ℤ (pos 2147024882))) out_of_memory 
 abbrev pub null_refusal : Refusal
 null_refusal = internal (codes "ID3D12Heap pointer is null, but should not be.") None
 
+-- why there is no heap, by the device's code, or by none where there was no error, and no heap
+abbrev pub answer_refusal : Option ℤ → Refusal
+answer_refusal (Some code) = code_refusal code
+answer_refusal None = null_refusal
+
 -- why there is no heap, where the answer is a refusal
 abbrev pub heap_refusal : HeapAnswer → Option Refusal
 heap_refusal (Granted number) = None

@@ -21,3 +21,4 @@ pub mod Resource
 pub mod Reply
 pub mod Step
 pub mod Over
+pub mod CommittedRequests

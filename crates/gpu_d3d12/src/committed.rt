@@ -19,7 +19,11 @@ use std::alloc::{AllocError, Global};
 use std::marker::Model;
 
 /// Why a committed resource can't be released.
-const FREED: &str = "Resource was already freed.";
+pub fn not_committed() -> AllocationError
+    ensures { refusal_of result ≡ freed }
+{
+    internal_fault("Resource was already freed.")
+}
 
 /// The memory of its own that a committed resource is asked for with.
 #[derive(Clone, Copy)]
@@ -31,7 +35,7 @@ pub struct CommittedMemory<'a> {
 }
 
 /// The sum of the records' sizes, in bytes.
-fn total_size(records: &[CommittedRecord]) -> u64
+pub fn total_size(records: &[CommittedRecord]) -> u64
     requires { total_size records.now < 2 ^ 64 }
     ensures { result ≡ total_size records.now }
 {
@@ -78,7 +82,7 @@ fn commit<D: D3D12Device>(
 }
 
 /// How many records there are, and their sizes' sum.
-fn statistics_of(records: &[CommittedRecord]) -> CommittedAllocationStatistics
+pub fn statistics_of(records: &[CommittedRecord]) -> CommittedAllocationStatistics
     requires { total_size records.now < 2 ^ 64 }
     ensures { result ≡ statistics_of records.now }
 {
@@ -89,7 +93,7 @@ fn statistics_of(records: &[CommittedRecord]) -> CommittedAllocationStatistics
 }
 
 /// Where a record of this number and size stands first.
-fn place_of(records: &[CommittedRecord], made: CommittedRecord) -> Option<usize>
+pub fn place_of(records: &[CommittedRecord], made: CommittedRecord) -> Option<usize>
     ensures { result ≡ place_of records.now made }
 {
     records.iter().position(|other| *other == made)
@@ -116,7 +120,7 @@ fn release<D: D3D12Device>(
     ensures sum { total_size records.old.items < 2 ^ 64 → total_size records.new.items < 2 ^ 64 }
 {
     let Some(place) = place_of(records, made) else {
-        return Err(internal_fault(FREED));
+        return Err(not_committed());
     };
     let _ = records.remove(place);
     source.release(made.resource);
@@ -215,7 +219,7 @@ impl CommittedResources {
         ensures kept { SumsFit self.new }
     {
         if index >= self.types.len() {
-            return Err(internal_fault(FREED));
+            return Err(not_committed());
         }
         release(&mut self.types[index], source, made)
     }

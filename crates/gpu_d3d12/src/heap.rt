@@ -3,7 +3,7 @@
 ghost use Rattle.std.specs.Prelude.{◌≡◌};
 ghost use Rattle.gpu_values.specs.Refusal.{refusal_of};
 ghost use Rattle.gpu_d3d12.specs.Heaps.{heap_properties, is_host, heap_desc};
-ghost use Rattle.gpu_d3d12.specs.HeapAnswer.{HeapAnswer, AsksHeap, IsResultOf, IsWithoutHeap, code_refusal};
+ghost use Rattle.gpu_d3d12.specs.HeapAnswer.{HeapAnswer, AsksHeap, IsResultOf, IsWithoutHeap, code_refusal, answer_refusal};
 
 use crate::MemoryKind;
 use gpu_device::d3d12::{
@@ -95,6 +95,16 @@ fn refusal_of_heap(code: i32) -> AllocationError
     })
 }
 
+/// Why a heap wasn't made: the device's code, or none where there was no error, and no heap.
+pub fn refusal_of_answer(code: Option<i32>) -> AllocationError
+    ensures { refusal_of result ≡ answer_refusal code }
+{
+    match code {
+        Some(code) => refusal_of_heap(code),
+        None => internal_fault("ID3D12Heap pointer is null, but should not be."),
+    }
+}
+
 /// Asks for the heap of a block. `OutOfMemory` where the device has no memory for it, `Internal` where it refuses for
 /// another cause or gives null.
 pub fn create_block_heap<D: D3D12Device>(device: &mut D, desc: &HeapDesc) -> Result<ID3D12Heap>
@@ -102,8 +112,8 @@ pub fn create_block_heap<D: D3D12Device>(device: &mut D, desc: &HeapDesc) -> Res
         × IsResultOf result answer }
 {
     match device.create_heap(desc) {
-        Err(code) => Err(refusal_of_heap(code)),
-        Ok(None) => Err(internal_fault("ID3D12Heap pointer is null, but should not be.")),
+        Err(code) => Err(refusal_of_answer(Some(code))),
+        Ok(None) => Err(refusal_of_answer(None)),
         Ok(Some(heap)) => Ok(heap),
     }
 }

@@ -6,6 +6,7 @@ mod allocator;
 mod category;
 mod committed;
 mod committed_record;
+mod committed_requests;
 mod create_resource;
 mod describe;
 mod device_version;
@@ -24,21 +25,21 @@ mod source;
 pub use allocator::Allocator;
 pub use category::ResourceCategory;
 use committed::{CommittedMemory, CommittedResources};
-use committed_record::CommittedRecord;
-use describe::request_of;
-pub use describe::{AllocationCreateDesc, AllocatorCreateDesc};
+pub use committed_record::CommittedRecord;
+pub use committed_requests::{AwaitedResource, Committed, CommittedRequests};
+pub use describe::{AllocationCreateDesc, AllocatorCreateDesc, request_of};
 pub use device_version::ID3D12DeviceVersion;
-pub use heap::heap_properties;
-use heap::{create_block_heap, heap_desc, release_block_heap};
-pub use memory_kind::type_for;
-use memory_kind::{MemoryKind, kind_at, type_count};
+pub use heap::{heap_desc, heap_properties, refusal_of_answer};
+use heap::{create_block_heap, release_block_heap};
+pub use memory_kind::{MemoryKind, kind_at, type_count, type_for};
 pub use question::{
     CommittedAllocationStatistics, CreateCall, ResourceCreateDesc, ResourceStateOrBarrierLayout,
     ResourceType, allocation_info_of, question_for,
 };
 pub use resource::Resource;
 pub use resource_answer::{create_committed, create_placed};
-use setup::{empty_types, parts_of, tier_of};
+pub use setup::empty_types;
+use setup::{parts_of, tier_of};
 
 /// A piece of a heap, as its owner holds it. Place a resource there.
 pub type Allocation = gpu_pool::Allocation<gpu_device::d3d12::ID3D12Heap>;

@@ -10,7 +10,14 @@ ghost use Rattle.gpu_metal.specs.Residency.{HoldsSet, with_left, release_recorde
 use crate::memory_kind::{heap_descriptor, heap_label};
 use crate::residency::{join_set, leave_set};
 use gpu_device::metal::{MTLHeap, MTLResidencySet, MetalDevice};
-use gpu_values::{MemoryLocation, Result, internal_fault};
+use gpu_values::{AllocationError, MemoryLocation, Result, internal_fault};
+
+/// Why a request is refused whose heap the device didn't make.
+pub fn heap_refusal() -> AllocationError
+    ensures { refusal_of result ≡ heap_refusal }
+{
+    internal_fault("No MTLHeap was returned")
+}
 
 /// Asks for a heap of `size` bytes for a block, and makes it a member of the residency set, where there is one. `Internal`
 /// where the device refuses it.
@@ -27,7 +34,7 @@ pub fn create_block_heap<D: MetalDevice>(
         × AsksHeap D.MetalDevice set device.old (heap_descriptor location) size None device.new) }
 {
     match device.new_heap(&heap_descriptor(location), size, heap_label(location)) {
-        None => Err(internal_fault("No MTLHeap was returned")),
+        None => Err(heap_refusal()),
         Some(heap) => {
             join_set(device, set, heap);
             Ok(heap)

@@ -12,12 +12,15 @@ mod setup;
 mod source;
 
 pub use allocator::{Allocator, Heaps};
-use describe::request_of;
-pub use describe::{AllocationCreateDesc, AllocatorCreateDesc, CommittedAllocationStatistics};
+pub use describe::{
+    AllocationCreateDesc, AllocatorCreateDesc, CommittedAllocationStatistics, request_of,
+};
+pub use heap::heap_refusal;
 use heap::{create_block_heap, release_block_heap};
-use memory_kind::{TYPE_COUNT, heap_descriptor, heap_label, is_host, location_at, type_for};
+pub use memory_kind::{heap_descriptor, heap_label, location_at, type_for};
+use memory_kind::{TYPE_COUNT, is_host};
 use residency::{commit_set, create_residency_set};
-use setup::empty_types;
+pub use setup::empty_types;
 
 /// A piece of a heap, as its owner holds it. Make a resource there.
 pub type Allocation = gpu_pool::Allocation<gpu_device::metal::MTLHeap>;
