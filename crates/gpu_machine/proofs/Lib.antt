@@ -6,3 +6,5 @@ pub mod Freeing
 pub mod Renaming
 pub mod Giving
 pub mod Staying
+pub mod MetalBeginning
+pub mod D3D12Beginning

@@ -4,3 +4,10 @@ pub mod Begin
 pub mod Calls
 pub mod Run
 pub mod Live
+pub mod MetalState
+pub mod MetalBegin
+pub mod MetalCalls
+pub mod MetalLive
+pub mod D3D12State
+pub mod D3D12Begin
+pub mod D3D12Live

@@ -3,9 +3,11 @@
 
 mod answer;
 mod awaited;
+pub mod d3d12;
 mod description;
 pub mod laws;
 mod machine;
+pub mod metal;
 mod refusal;
 mod told;
 

@@ -1,0 +1,153 @@
+//! What DirectX 12's machine asks and tells, one call after another.
+
+use super::*;
+use gpu_device::d3d12::{CpuPageProperty, HeapContent, HeapType, MemoryPool};
+use gpu_values::AllocationError;
+
+/// Whether the device is asked for a heap of 64 MB for buffers that the CPU writes to.
+fn asks_for_an_upload_heap(progress: &Result<Progress>) -> bool {
+    match progress {
+        Ok(Progress::Question(q)) => {
+            let properties = q.desc.properties;
+            q.block.memory_type == 3
+                && q.desc.size == 64 << 20
+                && q.desc.alignment == 4 << 20
+                && q.desc.content == HeapContent::Buffers
+                && properties.heap_type == HeapType::Custom
+                && properties.cpu_page_property == CpuPageProperty::WriteCombine
+                && properties.memory_pool_preference == MemoryPool::L0
+        }
+        _ => false,
+    }
+}
+
+/// Whether the error has this text and code.
+fn is_internal(error: &AllocationError, text: &str, code: Option<i64>) -> bool {
+    match error {
+        AllocationError::Internal(fault) => fault.text == text && fault.code == code,
+        _ => false,
+    }
+}
+
+/// A machine at tier 1.
+fn machine(alloc: Global) -> Result<Machine> {
+    Machine::new(alloc, AllocationSizes::default(), ResourceHeapTier::Tier1)
+}
+
+/// An upload buffer of so many bytes.
+fn upload(size: u64) -> AllocationCreateDesc<'static> {
+    piece(size, MemoryLocation::CpuToGpu, ResourceCategory::Buffer)
+}
+
+/// A question, the calls that are refused while it is open, and its two answers.
+fn questions_and_answers(alloc: Global) -> Result<[bool; 9]> {
+    let mut m = machine(alloc)?;
+    let none = m.refused(Some(-7));
+    let asked = m.begin(&upload(512));
+    let open = m.awaits_answer() && m.tier() == ResourceHeapTier::Tier1;
+    let again = m.begin(&upload(512));
+    let it = m.granted(ID3D12Heap(7))?;
+    let shared = m.begin(&upload(512))?;
+    let _ = m.begin(&upload(300_000_000))?;
+    let lack = m.refused(Some(-2_147_024_882));
+    let _ = m.begin(&upload(300_000_000))?;
+    let code = m.refused(Some(-7));
+    let _ = m.begin(&upload(300_000_000))?;
+    let null = m.refused(None);
+    Ok([
+        is_internal(&none, "No answer is awaited.", None),
+        asks_for_an_upload_heap(&asked),
+        open && again.is_err_and(|error| is_internal(&error, "An answer is awaited.", None)),
+        it.memory_type == 3 && it.piece.handle.0 == 7 && it.piece.offset == 0,
+        matches!(shared, Progress::Piece(a) if a.memory_type == 3 && a.piece.offset == 512),
+        matches!(lack, AllocationError::OutOfMemory),
+        is_internal(&code, "ID3D12Device::CreateHeap failed", Some(-7)),
+        is_internal(
+            &null,
+            "ID3D12Heap pointer is null, but should not be.",
+            None,
+        ),
+        m.is_live(3, &it.piece) && m.capacity() == 64 << 20 && !m.awaits_answer(),
+    ])
+}
+
+/// A name, a budget, a report, a leak, and the heap that goes back with its last piece.
+fn a_piece_comes_and_goes(alloc: Global) -> Result<[bool; 6]> {
+    let mut m = machine(alloc)?;
+    let _ = m.begin(&upload(300_000_000))?;
+    let it = m.granted(ID3D12Heap(3))?;
+    m.rename(3, &it.piece, "staging")?;
+    m.set_budget(3, Some(300_000_000))?;
+    let over = m.begin(&upload(1));
+    let report = m.report()?;
+    let texts = m.memory_types().leak_texts(alloc)?;
+    let named = texts.iter().any(|text| text.contains("staging")) && m.leaks().count() == 1;
+    let there = m.block(3, 0).is_some_and(|heap| heap.0 == 3);
+    let back = m.free(3, &it.piece)?;
+    Ok([
+        matches!(over, Err(AllocationError::BudgetExceeded)),
+        m.budget(3) == Some(300_000_000),
+        report.total_allocated_bytes == 300_000_000,
+        named && there,
+        back.is_some_and(|heap| heap.0 == 3),
+        m.free(3, &it.piece).is_err() && m.capacity() == 0,
+    ])
+}
+
+/// Committed resources: asked for, made or not, counted, forgotten once.
+fn committed_resources(alloc: Global) -> Result<[bool; 8]> {
+    let mut m = machine(alloc)?;
+    let target = ResourceCategory::RtvDsvTexture;
+    let none = m.made(ID3D12Resource(1));
+    m.begin_committed(1000, MemoryLocation::GpuOnly, target)?;
+    let open = m.awaits_resource() && !m.awaits_answer();
+    let again = m.begin_committed(1, MemoryLocation::GpuOnly, target);
+    let it = m.made(ID3D12Resource(5))?;
+    m.begin_committed(24, MemoryLocation::GpuOnly, target)?;
+    m.not_made()?;
+    let too_much = m.begin_committed(u64::MAX, MemoryLocation::GpuOnly, target);
+    let told = m.committed(1);
+    m.forget_committed(it)?;
+    Ok([
+        none.is_err_and(|error| is_internal(&error, "No answer is awaited.", None)),
+        open && again.is_err_and(|error| is_internal(&error, "An answer is awaited.", None)),
+        it.memory_type == 1 && it.resource.0 == 5 && it.size == 1000,
+        matches!(too_much, Err(AllocationError::OutOfMemory)),
+        told.is_some_and(|told| told.num_allocations == 1 && told.total_size == 1000),
+        m.committed(9).is_none() && !m.awaits_resource(),
+        m.forget_committed(it).is_err_and(|error| is_internal(
+            &error,
+            "Resource was already freed.",
+            None,
+        )),
+        m.committed(1)
+            .is_some_and(|told| told.num_allocations == 0 && told.total_size == 0),
+    ])
+}
+
+#[test]
+fn questions_are_asked_and_answered_in_turn(rt: HostRuntime) {
+    let steps = questions_and_answers(rt.alloc());
+    check(&rt, &[steps.is_ok()]);
+    if let Ok(steps) = steps {
+        check(&rt, &steps);
+    }
+}
+
+#[test]
+fn a_piece_of_a_heap_of_its_own_comes_and_goes(rt: HostRuntime) {
+    let steps = a_piece_comes_and_goes(rt.alloc());
+    check(&rt, &[steps.is_ok()]);
+    if let Ok(steps) = steps {
+        check(&rt, &steps);
+    }
+}
+
+#[test]
+fn committed_resources_are_counted_until_they_are_forgotten(rt: HostRuntime) {
+    let steps = committed_resources(rt.alloc());
+    check(&rt, &[steps.is_ok()]);
+    if let Ok(steps) = steps {
+        check(&rt, &steps);
+    }
+}
