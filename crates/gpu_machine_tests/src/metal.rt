@@ -49,7 +49,11 @@ fn allocate(
         Ok(Progress::Piece(allocated)) => return Ok(allocated),
         Ok(Progress::Question(question)) => question,
     };
-    match device.new_heap(&question.descriptor, question.block.size, heap_label(question.location)) {
+    match device.new_heap(
+        &question.descriptor,
+        question.block.size,
+        heap_label(question.location),
+    ) {
         None => Err(machine.refused()),
         Some(heap) => match machine.granted(heap) {
             Err(error) => Err(error),

@@ -20,7 +20,7 @@ const REFUSED: [(u64, Refusal); 3] = [
     (6, Refusal::Code(-7)),
 ];
 
-fn pair(alloc: Global, tier: ResourceHeapTier) -> Option<Pair> {
+fn make_pair(alloc: Global, tier: ResourceHeapTier) -> Option<Pair> {
     let sizes = AllocationSizes::default();
     let device = simulated(alloc, tier, &REFUSED)?;
     let desc = AllocatorCreateDesc {
@@ -129,7 +129,7 @@ fn step(
 
 /// How many of so many steps both take alike.
 fn steps_alike(alloc: Global, tier: ResourceHeapTier, count: u64) -> u64 {
-    let Some(mut pair) = pair(alloc, tier) else {
+    let Some(mut pair) = make_pair(alloc, tier) else {
         return 0;
     };
     let mut numbers = Numbers { state: 77 };

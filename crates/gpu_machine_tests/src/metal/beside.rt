@@ -16,7 +16,7 @@ struct Pair {
 /// The questions that both devices refuse.
 const REFUSED: [(u64, Refusal); 3] = [(2, Refusal::Null), (5, Refusal::Null), (6, Refusal::Null)];
 
-fn pair(alloc: Global) -> Option<Pair> {
+fn make_pair(alloc: Global) -> Option<Pair> {
     let sizes = AllocationSizes::default();
     let device = simulated(alloc, &REFUSED)?;
     let desc = AllocatorCreateDesc {
@@ -119,7 +119,7 @@ fn step(
 
 /// How many of so many steps both take alike.
 fn steps_alike(alloc: Global, count: u64) -> u64 {
-    let Some(mut pair) = pair(alloc) else {
+    let Some(mut pair) = make_pair(alloc) else {
         return 0;
     };
     let mut numbers = Numbers { state: 77 };
