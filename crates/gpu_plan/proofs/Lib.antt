@@ -1,0 +1,5 @@
+pub mod Rounding
+pub mod Paging
+pub mod Skipping
+pub mod Planning
+pub mod Alive

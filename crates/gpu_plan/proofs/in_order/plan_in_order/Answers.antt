@@ -1,0 +1,21 @@
+use Rattle.std.proofs.Common.{arith, refl}
+use Rattle.gpu_plan.specs.Plan.{IsPlan}
+use Rattle.gpu_plan.proofs.Planning.{plan_more, sound_more, plan_whole, plan_apart, refused}
+use Rattle.gpu_plan.proofs.in_order.plan_in_order.Goals as goal
+
+pub returns-in-None : goal.returns-in-None
+returns-in-None c =
+    refused c.args.page c.args.resources.now c.loop-r.placed.items c.loop-r.r-index _ _ (omega arith) c.loop-r.invariant.plan refl (rw c.as_slice.ensures.value at c.in-None.ensures)
+
+pub loop-r-preserved : goal.loop-r-preserved
+loop-r-preserved c =
+    let found = rw c.as_slice.ensures.value at c.in-Some.ensures in
+    rw c.in_ok-push-in-Some.ensures.items (record {
+      plan = plan_more c.args.page c.args.resources.now c.loop-r.placed.items c.loop-r.r-index _ _ (omega arith) c.loop-r.invariant.plan refl found.0;
+      sound = sound_more c.loop-r.placed.items _ c.loop-r.invariant.sound (record { sized = (c.requires.asked c.loop-r.r-index _ (omega arith)).0; within = found.1 });
+    })
+
+pub returns : goal.returns
+returns c =
+    let plan : IsPlan c.args.page c.args.resources.now c.loop-r.placed.items = plan_whole c.args.page c.args.resources.now c.loop-r.placed.items c.loop-r.r-index (omega arith) c.loop-r.invariant.plan in
+    (plan, plan_apart c.args.page c.args.resources.now c.loop-r.placed.items plan)

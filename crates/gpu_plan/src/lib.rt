@@ -1,0 +1,11 @@
+//! Offsets for transient resources in one heap: those that are never alive in one pass may have the same bytes. It holds no memory itself.
+#![tactic(auto)]
+
+mod in_order;
+mod passes;
+mod place;
+mod resource;
+
+pub use in_order::plan_in_order;
+pub use place::least_offset;
+pub use resource::{Kind, Placed, Resource};

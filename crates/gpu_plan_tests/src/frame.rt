@@ -1,0 +1,1 @@
+//! Frames of a few passes.
