@@ -3,3 +3,4 @@ pub mod Paging
 pub mod Skipping
 pub mod Planning
 pub mod Alive
+pub mod Ordering

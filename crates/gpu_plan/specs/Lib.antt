@@ -1,3 +1,5 @@
 pub mod Plan
 pub mod Outcomes
 pub mod Passes
+pub mod Order
+pub mod Rank

@@ -56,9 +56,9 @@ pub record IsRefused (page : ℕ) (resources : List Resource) : Type 0 where
   pub each : (k : ℕ) (d : Placed) → k < length before → IsLeast page (take k before) (slice_index_or before k d).resource (slice_index_or before k d).offset
   pub none : (o : ℕ) → IsFree page before next o → 2 ^ 64 ≤ o + next.size
 
--- what is asked for isn't empty and has an alignment
+-- what is asked for isn't empty, has an alignment, and ends no sooner than it begins
 abbrev pub IsAsked : Resource → Type 0
-IsAsked r = (0 < r.size) × (0 < r.alignment)
+IsAsked r = (0 < r.size) × (0 < r.alignment) × (r.first ≤ r.last)
 
 -- what a body may rely on: nothing is empty, and no end passes 64 bits
 pub record IsSound (p : Placed) : Type 0 where

@@ -2,10 +2,12 @@
 #![tactic(auto)]
 
 mod in_order;
+mod order;
 mod passes;
 mod place;
 mod resource;
 
 pub use in_order::plan_in_order;
+pub use order::Order;
 pub use place::least_offset;
 pub use resource::{Kind, Placed, Resource};
