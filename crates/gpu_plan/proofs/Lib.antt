@@ -4,3 +4,6 @@ pub mod Skipping
 pub mod Planning
 pub mod Alive
 pub mod Ordering
+pub mod OneOrder
+pub mod OnePlan
+pub mod Offsets

@@ -3,3 +3,4 @@ pub mod Outcomes
 pub mod Passes
 pub mod Order
 pub mod Rank
+pub mod OrderPlan

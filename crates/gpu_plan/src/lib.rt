@@ -3,6 +3,7 @@
 
 mod in_order;
 mod order;
+mod order_plan;
 mod passes;
 mod place;
 mod resource;

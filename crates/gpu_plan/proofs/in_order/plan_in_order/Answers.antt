@@ -3,8 +3,8 @@ use Rattle.gpu_plan.specs.Plan.{IsPlan}
 use Rattle.gpu_plan.proofs.Planning.{plan_more, sound_more, plan_whole, plan_apart, refused}
 use Rattle.gpu_plan.proofs.in_order.plan_in_order.Goals as goal
 
-pub returns-in-None : goal.returns-in-None
-returns-in-None c =
+pub returns-in-None-clause-planned : goal.returns-in-None-clause-planned
+returns-in-None-clause-planned c =
     refused c.args.page c.args.resources.now c.loop-r.placed.items c.loop-r.r-index _ _ (omega arith) c.loop-r.invariant.plan refl (rw c.as_slice.ensures.value at c.in-None.ensures)
 
 pub loop-r-preserved : goal.loop-r-preserved
@@ -18,4 +18,4 @@ loop-r-preserved c =
 pub returns : goal.returns
 returns c =
     let plan : IsPlan c.args.page c.args.resources.now c.loop-r.placed.items = plan_whole c.args.page c.args.resources.now c.loop-r.placed.items c.loop-r.r-index (omega arith) c.loop-r.invariant.plan in
-    (plan, plan_apart c.args.page c.args.resources.now c.loop-r.placed.items plan)
+    record { planned = plan; apart = plan_apart c.args.page c.args.resources.now c.loop-r.placed.items plan; within = c.loop-r.invariant.sound }
