@@ -7,3 +7,6 @@ pub mod Ordering
 pub mod OneOrder
 pub mod OnePlan
 pub mod Offsets
+pub mod Choice
+pub mod Apart
+pub mod Measure

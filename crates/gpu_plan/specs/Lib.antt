@@ -4,3 +4,5 @@ pub mod Passes
 pub mod Order
 pub mod Rank
 pub mod OrderPlan
+pub mod Best
+pub mod PlanErrors

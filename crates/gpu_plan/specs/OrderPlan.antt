@@ -1,5 +1,6 @@
 -- The plan of an order.
-use Rattle.std.specs.Prelude.{◌≡◌, ℕ, ◌+◌, ◌<◌, ◌≤◌, ◌⊎◌, List, length, map, slice_index}
+use Rattle.std.specs.Prelude.{◌≡◌, ℕ, ◌+◌, ◌<◌, ◌≤◌, ◌⊎◌, List, length, map, slice_index, Option, Some, None}
+use Rattle.gpu_plan.specs.declared.order_plan.OrderPlan.{OrderPlan}
 use Rattle.gpu_plan.specs.declared.resource.Resource.{Resource}
 use Rattle.gpu_plan.specs.declared.resource.Placed.{Placed}
 use Rattle.gpu_plan.specs.declared.order.Order.{Order}
@@ -25,3 +26,9 @@ end_at resources offsets index = slice_index offsets index + (resource_at resour
 pub record IsHeap (resources : List Resource) (offsets : List ℕ) (heap : ℕ) : Type 0 where
   pub within : (i : ℕ) → i < length resources → end_at resources offsets i ≤ heap
   pub reached : (heap ≡ 0) ⊎ ((i : ℕ) × (i < length resources) × (end_at resources offsets i ≡ heap))
+
+-- the plan with the smaller heap of two, of equal ones the first; where there is one alone, it
+abbrev pub IsBetter : (first second better : Option OrderPlan) → Type 0
+IsBetter None second better = better ≡ second
+IsBetter (Some p) None better = better ≡ Some p
+IsBetter (Some p) (Some q) better = ((better ≡ Some p) × (p.heap ≤ q.heap)) ⊎ ((better ≡ Some q) × (q.heap < p.heap))

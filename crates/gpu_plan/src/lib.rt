@@ -1,6 +1,8 @@
 //! Offsets for transient resources in one heap: those that are never alive in one pass may have the same bytes. It holds no memory itself.
 #![tactic(auto)]
 
+mod best;
+mod error;
 mod in_order;
 mod order;
 mod order_plan;
@@ -8,6 +10,8 @@ mod passes;
 mod place;
 mod resource;
 
+pub use best::{HeapPlan, plan};
+pub use error::PlanError;
 pub use in_order::plan_in_order;
 pub use order::Order;
 pub use place::least_offset;

@@ -27,6 +27,17 @@ pub enum Order {
     Breadth,
 }
 
+impl Order {
+    /// All orders; of those whose plans are equally good the first is chosen.
+    pub const ALL: [Order; 5] = [
+        Order::Size,
+        Order::Area,
+        Order::Alignment,
+        Order::Magnitude,
+        Order::Breadth,
+    ];
+}
+
 /// What resources are sorted by.
 #[derive(Clone, Copy, PartialEq, Eq, PartialOrd, Ord)]
 struct Rank {

@@ -5,7 +5,7 @@ ghost use Rattle.std.specs.List.{range_with_len};
 ghost use Rattle.std.specs.List.Sorted.{IsPermutation};
 ghost use Rattle.gpu_plan.specs.Plan.{resource_at, IsAsked};
 ghost use Rattle.gpu_plan.specs.Passes.{starts_of};
-ghost use Rattle.gpu_plan.specs.OrderPlan.{IsPlanBy, IsHeap, end_at};
+ghost use Rattle.gpu_plan.specs.OrderPlan.{IsPlanBy, IsHeap, IsBetter, end_at};
 ghost use Rattle.gpu_plan.specs.declared.resource.Placed.{Placed};
 
 use crate::in_order::plan_in_order;
@@ -17,6 +17,8 @@ use std::alloc::{AllocError, Global};
 /// The plan of an order.
 #[derive(Drop)]
 pub struct OrderPlan {
+    /// The order.
+    pub order: Order,
     /// Each resource's first byte, by its index.
     pub offsets: Vec<u64>,
     /// The byte behind the last resource, 0 without resources.
@@ -72,6 +74,19 @@ fn heap_of(resources: &[Resource], offsets: &[u64]) -> u64
     heap
 }
 
+/// The plan with the smaller heap, of equal ones the first; or the one that there is.
+pub fn better(best: Option<OrderPlan>, next: Option<OrderPlan>) -> Option<OrderPlan>
+    ensures { IsBetter best next result }
+{
+    let Some(old) = best else {
+        return next;
+    };
+    match next {
+        Some(new) if new.heap < old.heap => Some(new),
+        _ => Some(old),
+    }
+}
+
 /// The plan of an order; `None` where its heap would pass 64 bits.
 pub fn plan_by(
     alloc: Global,
@@ -83,10 +98,12 @@ pub fn plan_by(
     requires asked { All IsAsked resources.now }
     requires paged { 0 < page }
     requires starts { starts.now ≡ starts_of resources.now }
+    ensures order { IfOk result (λ found. IfSome found (λ plan. plan.order ≡ order)) }
     ensures planned { IfOk result (λ found. IfSome found (λ plan.
         IsPlanBy page order resources.now plan.offsets.items)) }
     ensures heap { IfOk result (λ found. IfSome found (λ plan.
         IsHeap resources.now plan.offsets.items plan.heap)) }
+    ensures fits { IfOk result (λ found. IfSome found (λ plan. plan.heap < 2 ^ 64)) }
     ensures large { IfOk result (λ found. IfNone found ((offsets : List ℕ) (heap : ℕ)
         → IsPlanBy page order resources.now offsets → IsHeap resources.now offsets heap
         → 2 ^ 64 ≤ heap)) }
@@ -98,5 +115,9 @@ pub fn plan_by(
     };
     let offsets = offsets_of(alloc, &indices, &placed)?;
     let heap = heap_of(resources, &offsets);
-    Ok(Some(OrderPlan { offsets, heap }))
+    Ok(Some(OrderPlan {
+        order,
+        offsets,
+        heap,
+    }))
 }
