@@ -10,3 +10,5 @@ pub mod Offsets
 pub mod Choice
 pub mod Apart
 pub mod Measure
+pub mod Listing
+pub mod Reusing

@@ -6,3 +6,4 @@ pub mod Rank
 pub mod OrderPlan
 pub mod Best
 pub mod PlanErrors
+pub mod Reuse

@@ -9,6 +9,7 @@ mod order_plan;
 mod passes;
 mod place;
 mod resource;
+mod reuse;
 
 pub use best::{HeapPlan, plan};
 pub use error::PlanError;
@@ -16,3 +17,4 @@ pub use in_order::plan_in_order;
 pub use order::Order;
 pub use place::least_offset;
 pub use resource::{Kind, Placed, Resource};
+pub use reuse::reuses;
