@@ -1,7 +1,7 @@
 -- The best of the orders, one by one.
 use Rattle.std.proofs.Common.{◌≡◌, ◌∙◌, refl, sym, ap, subst, ℕ, zero, suc, ◌+◌, ◌^◌, ◌<◌, ◌≤◌, inl, inr, List, [], ◌∷◌, get_or, Option, Some, None, arith}
 use Rattle.std.specs.Prelude.{IfSome, IfNone, MatchOption}
-use Rattle.std.proofs.lemmas.Bool.{cases_lt}
+use Rattle.std.proofs.lemmas.Bool.{cases_lt, cases_order}
 use Rattle.gpu_plan.specs.declared.resource.Resource.{Resource}
 use Rattle.gpu_plan.specs.declared.order.Order.{Order}
 use Rattle.gpu_plan.specs.declared.order.Order.TheVariants.{Size, Area, Alignment, Magnitude, Breadth}
@@ -143,3 +143,17 @@ pub best_all : (page : ℕ) (resources : List Resource) (k : ℕ) (best : Option
     → MatchOption best (NoneFits page resources 5) (λ p. IsBestOf page resources 5 p.order p.offsets.items p.heap × (p.heap < 2 ^ 64))
 best_all page resources k None all before = subst (λ (n : ℕ). NoneFits page resources n) all before
 best_all page resources k (Some p) all before = (subst (λ (n : ℕ). IsBestOf page resources n p.order p.offsets.items p.heap) all before.0, before.1)
+
+pub best_one : (page : ℕ) (resources : List Resource) (orders : ℕ) (a b : Order) (xs ys : List ℕ) (h g : ℕ) → IsBestOf page resources orders a xs h → IsBestOf page resources orders b ys g → (a ≡ b) × (xs ≡ ys) × (h ≡ g)
+best_one page resources orders a b xs ys h g x y =
+    let below = x.smallest b ys g y.among y.planned y.heap_is in
+    let above = y.smallest a xs h x.among x.planned x.heap_is in
+    let number : number_of a ≡ number_of b = elim (cases_order (number_of a) (number_of b)) [
+      | inl same ↦ same
+      | inr differ ↦ elim differ [
+        | inl before ↦ let less = y.first a xs h before x.planned x.heap_is in absurd (omega arith)
+        | inr after ↦ let less = x.first b ys g after y.planned y.heap_is in absurd (omega arith)
+      ]
+    ] in
+    let one : a ≡ b = number_one a b number in
+    (one, offsets_one page b resources xs ys (subst (λ (o : Order). IsPlanBy page o resources xs) one x.planned) y.planned, omega arith)

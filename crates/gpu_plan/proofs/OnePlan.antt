@@ -12,7 +12,7 @@ use Rattle.std.proofs.lemmas.List.Sorted.{Contains-permutation}
 use Rattle.gpu_plan.specs.declared.resource.Resource.{Resource}
 use Rattle.gpu_plan.specs.declared.resource.Placed.{Placed}
 use Rattle.gpu_plan.specs.declared.order.Order.{Order}
-use Rattle.gpu_plan.specs.Plan.{no_resource, resource_at, IsFree, IsLeast, IsPlan, IsRefused, IsSound, IsAsked}
+use Rattle.gpu_plan.specs.Plan.{no_resource, resource_at, IsFree, IsLeast, IsPlan, IsRefused, IsSound, IsValid}
 use Rattle.gpu_plan.specs.Order.{IsOrder}
 use Rattle.gpu_plan.specs.OrderPlan.{placed_at, end_at, IsPlanBy, IsHeap}
 use Rattle.gpu_plan.proofs.Ordering.{indices_length, indices_below}
@@ -167,7 +167,7 @@ refused_large page order resources indices ordered refused offsets heap plan hea
 
 -- ---- what is chosen and made
 
-pub asked_in : (resources : List Resource) (indices : List ℕ) → All IsAsked resources → All (λ i. i < length resources) indices → All IsAsked (map (resource_at resources) indices)
+pub asked_in : (resources : List Resource) (indices : List ℕ) → All IsValid resources → All (λ i. i < length resources) indices → All IsValid (map (resource_at resources) indices)
 asked_in resources indices asked below k d lt =
     let long = length-map indices (resource_at resources) in
     let here : k < length indices = omega arith in

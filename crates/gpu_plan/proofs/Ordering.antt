@@ -15,7 +15,7 @@ use Rattle.gpu_plan.specs.declared.resource.Resource.{Resource}
 use Rattle.gpu_plan.specs.declared.order.Order.{Order}
 use Rattle.gpu_plan.specs.declared.order.Order.TheVariants.{Size, Area, Alignment, Magnitude, Breadth}
 use Rattle.gpu_plan.specs.declared.order.Rank.{Rank}
-use Rattle.gpu_plan.specs.Plan.{resource_at, IsAsked}
+use Rattle.gpu_plan.specs.Plan.{resource_at, IsValid}
 use Rattle.gpu_plan.specs.Passes.{bytes_alive, IsBusiest}
 use Rattle.gpu_plan.specs.Order.{Part, Most, Least, Leads, passes_of, IsLog2, IsKey, Precedes, IsOrder}
 use Rattle.gpu_plan.specs.Rank.{Has, Ranks}
@@ -138,7 +138,7 @@ passes_keep : {P Q : Type 0} (x y : ℕ) (r s : Resource) → x ≡ r.last - r.f
     → (passes_of s < passes_of r) ⊎ ((passes_of r ≡ passes_of s) × Q)
 passes_keep x y r s ex ey a b f h = elim h [ inl lt ↦ inl (omega arith) | inr both ↦ let e = both.0 in inr (omega arith, f both.1) ]
 
-pub precedes : (order : Order) (resources : List Resource) (x y : Rank) → All IsAsked resources → x.index < length resources → y.index < length resources → Ranks order resources x → Ranks order resources y → Leads (parts_of x) (parts_of y)
+pub precedes : (order : Order) (resources : List Resource) (x y : Rank) → All IsValid resources → x.index < length resources → y.index < length resources → Ranks order resources x → Ranks order resources y → Leads (parts_of x) (parts_of y)
     → Precedes order resources x.index y.index
 precedes Size resources x y asked here there a b l = record {
   key = _;
@@ -182,7 +182,7 @@ precedes Breadth resources x y asked here there a b l = record {
 
 -- ---- the order that sorted ranks give
 
-pub order_is : (order : Order) (resources : List Resource) (ranks sorted : List Rank) (indices : List ℕ) (i : ℕ) → All IsAsked resources → map (λ x. x.index) ranks ≡ range_with_len 0 (length resources) → All (Ranks order resources) ranks
+pub order_is : (order : Order) (resources : List Resource) (ranks sorted : List Rank) (indices : List ℕ) (i : ℕ) → All IsValid resources → map (λ x. x.index) ranks ≡ range_with_len 0 (length resources) → All (Ranks order resources) ranks
     → IsPermutation ranks sorted → ((k : ℕ) (d : Rank) → 0 ≤ k → k + 1 < length sorted → is_lt (cmp (get_or sorted (k + 1) d) (get_or sorted k d)) ≡ false) → length sorted ≤ i → indices ≡ map (λ x. x.index) (take i sorted)
     → IsOrder order resources indices
 order_is order resources ranks sorted indices i asked numbered ranked same rising all made =

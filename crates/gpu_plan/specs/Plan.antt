@@ -57,8 +57,8 @@ pub record IsRefused (page : ℕ) (resources : List Resource) : Type 0 where
   pub none : (o : ℕ) → IsFree page before next o → 2 ^ 64 ≤ o + next.size
 
 -- what is asked for isn't empty, has an alignment, and ends no sooner than it begins
-abbrev pub IsAsked : Resource → Type 0
-IsAsked r = (0 < r.size) × (0 < r.alignment) × (r.first ≤ r.last)
+abbrev pub IsValid : Resource → Type 0
+IsValid r = (0 < r.size) × (0 < r.alignment) × (r.first ≤ r.last)
 
 -- what a body may rely on: nothing is empty, and no end passes 64 bits
 pub record IsSound (p : Placed) : Type 0 where

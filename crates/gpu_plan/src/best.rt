@@ -1,7 +1,7 @@
 //! The best of the orders' plans.
 
 ghost use Rattle.std.specs.Prelude.{◌≡◌, ℕ, ◌+◌, ◌^◌, ◌<◌, ◌≤◌, All, IfOk, IfErr, IfSome, MatchOption};
-ghost use Rattle.gpu_plan.specs.Plan.{IsAsked};
+ghost use Rattle.gpu_plan.specs.Plan.{IsValid};
 ghost use Rattle.gpu_plan.specs.Passes.{starts_of, IsPeak};
 ghost use Rattle.gpu_plan.specs.Best.{IsBestOf, NoneFits, NoneMeet, AreAligned, all_orders};
 
@@ -32,7 +32,7 @@ fn best_plan(
     starts: &[Start],
     page: u64,
 ) -> Result<Option<OrderPlan>, AllocError>
-    requires asked { All IsAsked resources.now }
+    requires valid { All IsValid resources.now }
     requires paged { 0 < page }
     requires starts { starts.now ≡ starts_of resources.now }
     ensures { IfOk result (λ best. MatchOption best (NoneFits page resources.now all_orders)
@@ -51,7 +51,7 @@ fn best_plan(
 /// where the host refused memory; `TooLarge` where each order's heap would pass 64 bits. The page (bytes) is what resources of different
 /// kinds don't share.
 pub fn plan(alloc: Global, resources: &[Resource], page: u64) -> Result<HeapPlan, PlanError>
-    requires asked { All IsAsked resources.now }
+    requires valid { All IsValid resources.now }
     requires paged { 0 < page }
     ensures best { IfOk result (λ plan. IsBestOf page resources.now all_orders
         plan.order plan.offsets.items plan.heap) }

@@ -4,6 +4,7 @@
 mod best;
 mod error;
 mod in_order;
+pub mod laws;
 mod order;
 mod order_plan;
 mod passes;
@@ -16,5 +17,5 @@ pub use error::PlanError;
 pub use in_order::plan_in_order;
 pub use order::Order;
 pub use place::least_offset;
-pub use resource::{Kind, Placed, Resource};
+pub use resource::{Kind, Placed, Resource, are_valid};
 pub use reuse::reuses;

@@ -2,7 +2,7 @@
 
 ghost use Rattle.std.specs.Prelude.{◌≡◌, ℕ, ◌<◌, ◌≤◌, All, IfOk, length, map};
 ghost use Rattle.std.specs.List.{range_with_len};
-ghost use Rattle.gpu_plan.specs.Plan.{IsAsked};
+ghost use Rattle.gpu_plan.specs.Plan.{IsValid};
 ghost use Rattle.gpu_plan.specs.Passes.{starts_of};
 ghost use Rattle.gpu_plan.specs.Order.{IsOrder};
 ghost use Rattle.gpu_plan.specs.Rank.{Ranks};
@@ -65,7 +65,7 @@ impl Rank {
 
 /// The rank of the resource at an index.
 fn rank_of(order: Order, resources: &[Resource], starts: &[Start], index: usize) -> Rank
-    requires asked { All IsAsked resources.now }
+    requires valid { All IsValid resources.now }
     requires index { index < length resources.now }
     requires starts { starts.now ≡ starts_of resources.now }
     ensures index { result.index ≡ index }
@@ -102,7 +102,7 @@ fn all_ranks(
     resources: &[Resource],
     starts: &[Start],
 ) -> Result<Vec<Rank>, AllocError>
-    requires asked { All IsAsked resources.now }
+    requires valid { All IsValid resources.now }
     requires starts { starts.now ≡ starts_of resources.now }
     ensures indices { IfOk result (λ ranks. map (λ x. x.index) ranks.items
         ≡ range_with_len 0 (length resources.now)) }
@@ -122,7 +122,7 @@ pub fn indices_in(
     resources: &[Resource],
     starts: &[Start],
 ) -> Result<Vec<usize>, AllocError>
-    requires asked { All IsAsked resources.now }
+    requires valid { All IsValid resources.now }
     requires starts { starts.now ≡ starts_of resources.now }
     ensures { IfOk result (λ indices. IsOrder order resources.now indices.items) }
 {

@@ -3,7 +3,7 @@
 ghost use Rattle.std.specs.Prelude.{◌≡◌, ℕ, ◌^◌, ◌<◌, ◌≤◌, All, IfOk, IfSome, IfNone, List, length, map, slice_index, slice_index_or};
 ghost use Rattle.std.specs.List.{range_with_len};
 ghost use Rattle.std.specs.List.Sorted.{IsPermutation};
-ghost use Rattle.gpu_plan.specs.Plan.{resource_at, IsAsked};
+ghost use Rattle.gpu_plan.specs.Plan.{resource_at, IsValid};
 ghost use Rattle.gpu_plan.specs.Passes.{starts_of};
 ghost use Rattle.gpu_plan.specs.OrderPlan.{IsPlanBy, IsHeap, IsBetter, end_at};
 ghost use Rattle.gpu_plan.specs.declared.resource.Placed.{Placed};
@@ -95,7 +95,7 @@ pub fn plan_by(
     starts: &[Start],
     page: u64,
 ) -> Result<Option<OrderPlan>, AllocError>
-    requires asked { All IsAsked resources.now }
+    requires valid { All IsValid resources.now }
     requires paged { 0 < page }
     requires starts { starts.now ≡ starts_of resources.now }
     ensures order { IfOk result (λ found. IfSome found (λ plan. plan.order ≡ order)) }

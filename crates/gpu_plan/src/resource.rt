@@ -1,5 +1,8 @@
 //! What is placed, and where.
 
+ghost use Rattle.std.specs.Prelude.{◌<◌, ◌≤◌, ◌↔◌, IsTrue, All};
+ghost use Rattle.gpu_plan.specs.Plan.{IsValid};
+
 /// How a resource lies in memory. Resources of different kinds share no page while both are alive.
 #[derive(Clone, Copy, Debug, PartialEq, Eq)]
 pub enum Kind {
@@ -31,4 +34,13 @@ pub struct Placed {
     pub resource: Resource,
     /// Its first byte in the heap.
     pub offset: u64,
+}
+
+/// Whether each has a size and an alignment, and a first pass that isn't after its last: what plans ask of resources.
+pub fn are_valid(resources: &[Resource]) -> bool
+    ensures { IsTrue result ↔ All IsValid resources.now }
+{
+    resources
+        .iter()
+        .all(|r| 0 < r.size && 0 < r.alignment && r.first <= r.last)
 }

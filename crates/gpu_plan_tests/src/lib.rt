@@ -1,4 +1,4 @@
-//! Tests of plans: worked frame graphs, and that plans are there while there is memory.
+//! Tests of plans: a worked frame, and that plans are there while there is memory.
 #![tactic(auto)]
 
 #[cfg(test)]

@@ -12,7 +12,7 @@ loop-r-preserved c =
     let found = rw c.as_slice.ensures.value at c.in-Some.ensures in
     rw c.in_ok-push-in-Some.ensures.items (record {
       plan = plan_more c.args.page c.args.resources.now c.loop-r.placed.items c.loop-r.r-index _ _ (omega arith) c.loop-r.invariant.plan refl found.0;
-      sound = sound_more c.loop-r.placed.items _ c.loop-r.invariant.sound (record { sized = (c.requires.asked c.loop-r.r-index _ (omega arith)).0; within = found.1 });
+      sound = sound_more c.loop-r.placed.items _ c.loop-r.invariant.sound (record { sized = (c.requires.valid c.loop-r.r-index _ (omega arith)).0; within = found.1 });
     })
 
 pub returns : goal.returns

@@ -3,7 +3,7 @@ use Rattle.std.specs.Prelude.{All}
 use Rattle.std.specs.List.{range_with_len}
 use Rattle.std.specs.List.Sorted.{IsPermutation}
 use Rattle.gpu_plan.specs.declared.resource.Resource.{Resource}
-use Rattle.gpu_plan.specs.Plan.{resource_at, IsAsked, IsRefused}
+use Rattle.gpu_plan.specs.Plan.{resource_at, IsValid, IsRefused}
 use Rattle.gpu_plan.specs.OrderPlan.{placed_at}
 use Rattle.gpu_plan.proofs.Ordering.{indices_below, indices_length}
 use Rattle.gpu_plan.proofs.OnePlan.{asked_in, refused_large, made_is, ends_fit}
@@ -12,11 +12,11 @@ use Rattle.gpu_plan.proofs.order_plan.plan_by.Goals as goal
 pub resources_at-requires : goal.resources_at-requires
 resources_at-requires c = rw c.deref.ensures.value (indices_below (length c.args.resources.now) c.in_ok-indices.indices.items c.in_ok-indices.ensures.permutation)
 
-pub plan_in_order-requires-clause-asked : goal.plan_in_order-requires-clause-asked
-plan_in_order-requires-clause-asked c =
+pub plan_in_order-requires-clause-valid : goal.plan_in_order-requires-clause-valid
+plan_in_order-requires-clause-valid c =
     let below = indices_below (length c.args.resources.now) c.in_ok-indices.indices.items c.in_ok-indices.ensures.permutation in
     let chosen = rw c.deref.ensures.value at c.in_ok-chosen.ensures in
-    rw (c.deref-2.ensures.value, chosen) (asked_in c.args.resources.now c.in_ok-indices.indices.items c.requires.asked below)
+    rw (c.deref-2.ensures.value, chosen) (asked_in c.args.resources.now c.in_ok-indices.indices.items c.requires.valid below)
 
 pub returns-in_default-clause-large : goal.returns-in_default-clause-large
 returns-in_default-clause-large c =
