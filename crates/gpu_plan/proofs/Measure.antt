@@ -1,5 +1,5 @@
 -- Pieces that share no byte have no more bytes, together, than the heap that they lie in.
-use Rattle.std.proofs.Common.{◌≡◌, ◌∙◌, refl, sym, ap, subst, ℕ, zero, suc, ◌+◌, ◌-◌, ◌<◌, ◌≤◌, inl, inr, ◌⊎◌, if◌then◌else◌, Bool, true, false, List, [], ◌∷◌, length, get_or, map, arith}
+use Rattle.std.proofs.Common.{◌≡◌, ◌∙◌, refl, sym, ap, subst, ℕ, zero, suc, ◌+◌, ◌-◌, ◌<◌, ◌≤◌, inl, inr, ◌⊎◌, if◌then◌else◌, true, false, List, [], ◌∷◌, length, get_or, map, arith}
 use Rattle.std.specs.Prelude.{All, sum_by}
 use Rattle.std.specs.List.{range_with_len, AllByRecursion}
 use Rattle.std.proofs.lemmas.Bool.{cases_lt, cases_Bool, both_ways}
@@ -9,9 +9,9 @@ use Rattle.std.proofs.lemmas.List.FromFn.{length-range_with_len, get_or-range_wi
 use Rattle.std.proofs.lemmas.List.Sums.{sum_by-cons}
 use Rattle.gpu_plan.specs.declared.resource.Resource.{Resource}
 use Rattle.gpu_plan.specs.declared.resource.Placed.{Placed}
-use Rattle.gpu_plan.specs.Plan.{no_resource, resource_at, Overlap, ShareByte, Meets}
+use Rattle.gpu_plan.specs.Plan.{no_resource, resource_at, ShareByte}
 use Rattle.gpu_plan.specs.Passes.{is_alive, bytes_alive, IsPeak}
-use Rattle.gpu_plan.specs.OrderPlan.{placed_at, end_at, IsHeap}
+use Rattle.gpu_plan.specs.OrderPlan.{placed_at, IsHeap}
 use Rattle.gpu_plan.specs.Best.{NoneMeet}
 use Rattle.gpu_plan.proofs.Alive.{adds, adds_alive, adds_none, alive_from}
 use Rattle.gpu_plan.proofs.OnePlan.{nothing, resource_in}

@@ -1,6 +1,6 @@
 -- The plan of an order is one: its placed resources, its offsets and its heap.
 use Rattle.std.proofs.Common.{◌≡◌, ◌∙◌, refl, sym, ap, subst, ℕ, zero, suc, ◌+◌, ◌^◌, ◌<◌, ◌≤◌, inl, inr, List, [], ◌∷◌, ◌++◌, length, get_or, take, map, arith}
-use Rattle.std.specs.Prelude.{All, Contains}
+use Rattle.std.specs.Prelude.{All}
 use Rattle.std.specs.List.{range_with_len}
 use Rattle.std.specs.List.Sorted.{IsPermutation}
 use Rattle.std.proofs.Math.ListN.{get_or-append}
@@ -12,10 +12,10 @@ use Rattle.std.proofs.lemmas.List.Sorted.{Contains-permutation}
 use Rattle.gpu_plan.specs.declared.resource.Resource.{Resource}
 use Rattle.gpu_plan.specs.declared.resource.Placed.{Placed}
 use Rattle.gpu_plan.specs.declared.order.Order.{Order}
-use Rattle.gpu_plan.specs.Plan.{no_resource, resource_at, IsFree, IsLeast, IsPlan, IsRefused, IsSound, IsValid}
+use Rattle.gpu_plan.specs.Plan.{no_resource, resource_at, IsLeast, IsPlan, IsRefused, IsSound, IsValid}
 use Rattle.gpu_plan.specs.Order.{IsOrder}
 use Rattle.gpu_plan.specs.OrderPlan.{placed_at, end_at, IsPlanBy, IsHeap}
-use Rattle.gpu_plan.proofs.Ordering.{indices_length, indices_below}
+use Rattle.gpu_plan.proofs.Ordering.{indices_below}
 use Rattle.gpu_plan.proofs.OneOrder.{order_one}
 
 abbrev pub nothing : Placed

@@ -1,5 +1,5 @@
 -- From a sort by ranks to an order.
-use Rattle.std.proofs.Common.{◌≡◌, ◌≢◌, ◌∙◌, refl, sym, ap, subst, ℕ, zero, suc, ◌+◌, ◌-◌, ◌*◌, ◌<◌, ◌≤◌, ◌⊎◌, inl, inr, Bool, true, false, List, [], ◌∷◌, ◌++◌, length, get_or, take, arith, cond}
+use Rattle.std.proofs.Common.{◌≡◌, ◌≢◌, ◌∙◌, refl, sym, ap, subst, ℕ, zero, suc, ◌+◌, ◌-◌, ◌<◌, ◌≤◌, ◌⊎◌, inl, inr, true, false, List, [], ◌∷◌, ◌++◌, length, get_or, take, arith}
 use Rattle.std.specs.Prelude.{map, All}
 use Rattle.std.specs.List.{range_with_len, IsDistinct, AllByRecursion}
 use Rattle.std.specs.List.Sorted.{IsPermutation}
@@ -16,9 +16,8 @@ use Rattle.gpu_plan.specs.declared.order.Order.{Order}
 use Rattle.gpu_plan.specs.declared.order.Order.TheVariants.{Size, Area, Alignment, Magnitude, Breadth}
 use Rattle.gpu_plan.specs.declared.order.Rank.{Rank}
 use Rattle.gpu_plan.specs.Plan.{resource_at, IsValid}
-use Rattle.gpu_plan.specs.Passes.{bytes_alive, IsBusiest}
-use Rattle.gpu_plan.specs.Order.{Part, Most, Least, Leads, passes_of, IsLog2, IsKey, Precedes, IsOrder}
-use Rattle.gpu_plan.specs.Rank.{Has, Ranks}
+use Rattle.gpu_plan.specs.Order.{Part, Most, Least, Leads, passes_of, Precedes, IsOrder}
+use Rattle.gpu_plan.specs.Rank.{Ranks}
 
 -- ---- the indices
 

@@ -1,12 +1,12 @@
 -- What an offset that meets a placed resource rules out.
-use Rattle.std.proofs.Common.{◌≡◌, ◌≢◌, ℕ, ◌+◌, ◌-◌, ◌/◌, ◌%◌, ◌^◌, ◌<◌, ◌≤◌, inl, inr, List, length, get_or, refl, arith}
+use Rattle.std.proofs.Common.{◌≡◌, ◌∙◌, sym, ap, subst, ◌≢◌, ℕ, ◌+◌, ◌-◌, ◌/◌, ◌%◌, ◌^◌, ◌<◌, ◌≤◌, inl, inr, List, length, get_or, arith}
 use Rattle.gpu_plan.specs.declared.resource.Resource.{Resource}
 use Rattle.gpu_plan.specs.declared.resource.Placed.{Placed}
-use Rattle.gpu_plan.specs.declared.place.Outcome.{Outcome}
 use Rattle.gpu_plan.specs.declared.place.Outcome.TheVariants.{Free, Next, Past}
-use Rattle.gpu_plan.specs.Plan.{Overlap, ShareByte, SharePage, Meets}
+use Rattle.gpu_plan.specs.Plan.{Overlap, ShareByte, SharePage, Meets, IsFree}
 use Rattle.gpu_plan.specs.Outcomes.{Skips, Tries}
 use Rattle.std.proofs.lemmas.Bool.{cases_lt}
+use Rattle.std.proofs.lemmas.List.{get_or_default}
 use Rattle.gpu_plan.proofs.Paging.{page_mono}
 
 -- from o to before end the resource meets p
@@ -58,8 +58,58 @@ skips_past page r o p end b least q from aligned small =
       | inr after ↦ let l = least q after aligned in absurd (omega arith)
     ]
 
--- what one of the placed ones rules out, all together do
-pub tries_from : (page : ℕ) (placed : List Placed) (r : Resource) (o i : ℕ) (d : Placed) (x : Outcome) → i < length placed → (x ≡ Free → ⊥) → Skips page r o (get_or placed i d) x → Tries page placed r o x
-tries_from page placed r o i d Free lt not h = absurd (not refl)
-tries_from page placed r o i d (Next n) lt not h = (h.0, h.1, λ q from to free. free.apart i d lt (h.2 q from to free.aligned))
-tries_from page placed r o i d Past lt not h = λ q from small free. free.apart i d lt (h q from free.aligned small)
+-- the first ones are passed, from o to at
+pub record Swept (page : ℕ) (placed : List Placed) (r : Resource) (o i at : ℕ) : Type 0 where
+  pub up : o ≤ at
+  pub here : at ≡ o → (k : ℕ) (d : Placed) → k < i → Meets page r o (get_or placed k d) → ⊥
+  pub multiple : o < at → at % r.alignment ≡ 0
+  pub blocked : (q : ℕ) → o ≤ q → q < at → IsFree page placed r q → ⊥
+
+pub swept_none : (page : ℕ) (placed : List Placed) (r : Resource) (o : ℕ) → Swept page placed r o 0 o
+swept_none page placed r o = record {
+  up = omega arith;
+  here = λ same k d lt. absurd (omega arith);
+  multiple = λ lt. absurd (omega arith);
+  blocked = λ q from to. absurd (omega arith);
+}
+
+pub swept_free : (page : ℕ) (placed : List Placed) (r : Resource) (o i at : ℕ) (e : Placed) → i < length placed → Swept page placed r o i at → (Meets page r at (get_or placed i e) → ⊥) → Swept page placed r o (i + 1) at
+swept_free page placed r o i at e in_list s free = record {
+  up = s.up;
+  here = λ same k d lt meets. elim (cases_lt k i) [
+    | inl before ↦ s.here same k d before meets
+    | inr last ↦
+        let k_is : k ≡ i = omega arith in
+        let one : get_or placed k d ≡ get_or placed i e = ap (λ (j : ℕ). get_or placed j d) k_is ∙ get_or_default placed i d e in_list in
+        let moved : Meets page r o (get_or placed i e) = subst (λ (p : Placed). Meets page r o p) one meets in
+        free (subst (λ (x : ℕ). Meets page r x (get_or placed i e)) (sym same) moved)
+  ];
+  multiple = s.multiple;
+  blocked = s.blocked;
+}
+
+pub swept_next : (page : ℕ) (placed : List Placed) (r : Resource) (o i at n : ℕ) (e : Placed) → i < length placed → Swept page placed r o i at → Skips page r at (get_or placed i e) (Next n) → Swept page placed r o (i + 1) n
+swept_next page placed r o i at n e in_list s skips =
+    let up = s.up in
+    let beyond = skips.0 in
+    record {
+      up = omega arith;
+      here = λ same. absurd (omega arith);
+      multiple = λ lt. skips.1;
+      blocked = λ q from to free. elim (cases_lt q at) [
+        | inl before ↦ s.blocked q from before free
+        | inr after ↦ free.apart i e in_list (skips.2 q after to free.aligned)
+      ];
+    }
+
+pub swept_past : (page : ℕ) (placed : List Placed) (r : Resource) (o i at : ℕ) (e : Placed) → i < length placed → Swept page placed r o i at → Skips page r at (get_or placed i e) Past → Tries page placed r o Past
+swept_past page placed r o i at e in_list s skips q from small free = elim (cases_lt q at) [
+  | inl before ↦ s.blocked q from before free
+  | inr after ↦ free.apart i e in_list (skips q after free.aligned small)
+]
+
+pub swept_on : (page : ℕ) (placed : List Placed) (r : Resource) (o i at : ℕ) → Swept page placed r o i at → o < at → Tries page placed r o (Next at)
+swept_on page placed r o i at s beyond = (beyond, s.multiple beyond, s.blocked)
+
+pub swept_all : (page : ℕ) (placed : List Placed) (r : Resource) (o i at : ℕ) → length placed ≤ i → Swept page placed r o i at → at ≡ o → Tries page placed r o Free
+swept_all page placed r o i at all s same = λ k d lt. s.here same k d (omega arith)

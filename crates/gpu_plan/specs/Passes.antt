@@ -1,5 +1,5 @@
 -- What is alive in a pass.
-use Rattle.std.specs.Prelude.{◌≡◌, ℕ, ◌+◌, ◌<◌, ◌≤◌, if◌then◌else◌, ◌&&◌, Bool, nat_le, List, map, sum_by}
+use Rattle.std.specs.Prelude.{◌≡◌, ℕ, ◌<◌, ◌≤◌, if◌then◌else◌, ◌&&◌, Bool, nat_le, List, map, sum_by}
 use Rattle.gpu_plan.specs.declared.resource.Resource.{Resource}
 use Rattle.gpu_plan.specs.declared.passes.Start.{Start}
 

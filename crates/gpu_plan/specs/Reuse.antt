@@ -1,5 +1,5 @@
 -- Which resources lie where others lay.
-use Rattle.std.specs.Prelude.{◌≡◌, ℕ, ◌<◌, List, length, slice_index, Contains, ◌↔◌}
+use Rattle.std.specs.Prelude.{ℕ, ◌<◌, List, length, slice_index, Contains, ◌↔◌}
 use Rattle.std.specs.List.Sorted.{IsStrictlyIncreasing}
 use Rattle.gpu_plan.specs.declared.resource.Resource.{Resource}
 use Rattle.gpu_plan.specs.Plan.{resource_at, ShareByte}

@@ -1,6 +1,6 @@
 //! The best of the orders' plans.
 
-ghost use Rattle.std.specs.Prelude.{◌≡◌, ℕ, ◌+◌, ◌^◌, ◌<◌, ◌≤◌, All, IfOk, IfErr, IfSome, MatchOption};
+ghost use Rattle.std.specs.Prelude.{◌≡◌, ℕ, ◌+◌, ◌^◌, ◌<◌, ◌≤◌, All, IfOk, IfErr, IsErr, MatchOption};
 ghost use Rattle.gpu_plan.specs.Plan.{IsValid};
 ghost use Rattle.gpu_plan.specs.Passes.{starts_of, IsPeak};
 ghost use Rattle.gpu_plan.specs.Best.{IsBestOf, NoneFits, NoneMeet, AreAligned, all_orders};
@@ -59,7 +59,9 @@ pub fn plan(alloc: Global, resources: &[Resource], page: u64) -> Result<HeapPlan
     ensures apart { IfOk result (λ plan. NoneMeet page resources.now plan.offsets.items) }
     ensures peak { IfOk result (λ plan. IsPeak resources.now plan.peak) }
     ensures heap { IfOk result (λ plan. plan.peak ≤ plan.heap) }
+    // too large exactly where no order's heap fits 64 bits
     ensures large { IfErr result (λ e. e ≡ PlanError.TooLarge → NoneFits page resources.now all_orders) }
+    ensures fits { NoneFits page resources.now all_orders → IsErr result }
 {
     let starts = starts(alloc, resources)?;
     match best_plan(alloc, resources, &starts, page)? {

@@ -97,7 +97,7 @@ fn past(o: u64, r: &Resource, p: &Placed, page: u64) -> Outcome
     }
 }
 
-/// The first placed resource that the offset meets decides the next try.
+/// Past each placed resource that the offset meets, one after another.
 fn next_try(placed: &[Placed], o: u64, r: &Resource, page: u64) -> Outcome
     requires end { o + r.now.size < 2 ^ 64 }
     requires sized { 0 < r.now.size }
@@ -106,14 +106,22 @@ fn next_try(placed: &[Placed], o: u64, r: &Resource, page: u64) -> Outcome
     requires sound { All IsSound placed.now }
     ensures { Tries page placed.now r.now o result }
 {
+    let mut at = o;
     for p in placed {
-        let outcome = past(o, r, p, page);
-        match outcome {
+        if u64::MAX - r.size < at {
+            return Outcome::Next(at);
+        }
+        match past(at, r, p, page) {
             Outcome::Free => {}
-            _ => return outcome,
+            Outcome::Next(next) => at = next,
+            Outcome::Past => return Outcome::Past,
         }
     }
-    Outcome::Free
+    if at == o {
+        Outcome::Free
+    } else {
+        Outcome::Next(at)
+    }
 }
 
 /// The least offset at which the resource is apart from all placed ones that are alive with it, if its end has 64 bits.

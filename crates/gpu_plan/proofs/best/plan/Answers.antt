@@ -28,3 +28,10 @@ returns-in-Some-clause-heap c =
     let best = rw c.in-Some.is at c.in_ok-best.ensures in
     let peak = c.peak.ensures a.resources.now (c.deref-in-Some.ensures.value ∙ c.in_ok-starts.ensures) in
     peak_within a.page a.resources.now c.in-Some.best.offsets.items c.in-Some.best.heap c.peak.result (none_meet a.page c.in-Some.best.order a.resources.now c.in-Some.best.offsets.items best.0.planned) best.0.heap_is peak
+
+pub returns-in-Some-clause-fits : goal.returns-in-Some-clause-fits
+returns-in-Some-clause-fits c = λ none.
+    let best = rw c.in-Some.is at c.in_ok-best.ensures in
+    let large = none c.in-Some.best.order c.in-Some.best.offsets.items c.in-Some.best.heap best.0.among best.0.planned best.0.heap_is in
+    let fits = best.1 in
+    absurd (omega arith)

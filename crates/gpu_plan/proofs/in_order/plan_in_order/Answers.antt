@@ -1,18 +1,27 @@
 use Rattle.std.proofs.Common.{arith, refl}
-use Rattle.gpu_plan.specs.Plan.{IsPlan}
-use Rattle.gpu_plan.proofs.Planning.{plan_more, sound_more, plan_whole, plan_apart, refused}
+use Rattle.std.proofs.lemmas.List.Sorted.{All-permutation, IsPermutation-push_more, IsPermutation-insert}
+use Rattle.gpu_plan.specs.Plan.{IsPlan, IsSound}
+use Rattle.gpu_plan.proofs.Planning.{plan_more, sound_more, plan_whole, plan_apart, refused, least_moved, none_moved}
 use Rattle.gpu_plan.proofs.in_order.plan_in_order.Goals as goal
+
+pub least_offset-requires-clause-sound : goal.least_offset-requires-clause-sound
+least_offset-requires-clause-sound c =
+    rw c.as_slice.ensures.value (All-permutation IsSound c.loop-r.placed.items c.loop-r.by_offset.items c.loop-r.invariant.same c.loop-r.invariant.sound)
 
 pub returns-in-None-clause-planned : goal.returns-in-None-clause-planned
 returns-in-None-clause-planned c =
-    refused c.args.page c.args.resources.now c.loop-r.placed.items c.loop-r.r-index _ _ (omega arith) c.loop-r.invariant.plan refl (rw c.as_slice.ensures.value at c.in-None.ensures)
+    let none = rw c.as_slice.ensures.value at c.in-None.ensures in
+    refused c.args.page c.args.resources.now c.loop-r.placed.items c.loop-r.r-index _ _ (omega arith) c.loop-r.invariant.plan refl
+    (none_moved c.args.page c.loop-r.placed.items c.loop-r.by_offset.items _ c.loop-r.invariant.same none)
 
 pub loop-r-preserved : goal.loop-r-preserved
 loop-r-preserved c =
     let found = rw c.as_slice.ensures.value at c.in-Some.ensures in
-    rw c.in_ok-push-in-Some.ensures.items (record {
-      plan = plan_more c.args.page c.args.resources.now c.loop-r.placed.items c.loop-r.r-index _ _ (omega arith) c.loop-r.invariant.plan refl found.0;
+    let least = least_moved c.args.page c.loop-r.placed.items c.loop-r.by_offset.items _ _ c.loop-r.invariant.same found.0 in
+    rw (c.in_ok-push.ensures.items, c.in_ok-insert.ensures.items) (record {
+      plan = plan_more c.args.page c.args.resources.now c.loop-r.placed.items c.loop-r.r-index _ _ (omega arith) c.loop-r.invariant.plan refl least;
       sound = sound_more c.loop-r.placed.items _ c.loop-r.invariant.sound (record { sized = (c.requires.valid c.loop-r.r-index _ (omega arith)).0; within = found.1 });
+      same = IsPermutation-push_more c.loop-r.placed.items c.loop-r.by_offset.items _ _ c.loop-r.invariant.same (IsPermutation-insert c.loop-r.by_offset.items c.partition_point-index.result _);
     })
 
 pub returns : goal.returns

@@ -1,7 +1,5 @@
-use Rattle.std.proofs.Common.{◌∷◌, [], ◌∙◌, ap, arith}
-use Rattle.std.proofs.lemmas.List.{map-append}
 use Rattle.std.proofs.lemmas.List.Elements.{All-push}
-use Rattle.gpu_plan.proofs.Ordering.{range_more, pushed_index}
+use Rattle.gpu_plan.proofs.Ordering.{pushed_index}
 use Rattle.gpu_plan.specs.Rank.{Ranks}
 use Rattle.gpu_plan.proofs.order.all_ranks.Goals as goal
 

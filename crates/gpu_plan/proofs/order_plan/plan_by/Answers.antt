@@ -1,10 +1,4 @@
-use Rattle.std.proofs.Common.{◌≡◌, ◌∙◌, sym, ap, subst, ℕ, List, length, get_or, map, arith}
-use Rattle.std.specs.Prelude.{All}
-use Rattle.std.specs.List.{range_with_len}
-use Rattle.std.specs.List.Sorted.{IsPermutation}
-use Rattle.gpu_plan.specs.declared.resource.Resource.{Resource}
-use Rattle.gpu_plan.specs.Plan.{resource_at, IsValid, IsRefused}
-use Rattle.gpu_plan.specs.OrderPlan.{placed_at}
+use Rattle.std.proofs.Common.{◌∙◌, length}
 use Rattle.gpu_plan.proofs.Ordering.{indices_below, indices_length}
 use Rattle.gpu_plan.proofs.OnePlan.{asked_in, refused_large, made_is, ends_fit}
 use Rattle.gpu_plan.proofs.order_plan.plan_by.Goals as goal

@@ -1,4 +1,4 @@
-use Rattle.std.proofs.Common.{◌≡◌, ℕ, ◌≤◌, ◌*◌, ◌^◌, take}
+use Rattle.std.proofs.Common.{◌≡◌, ◌≤◌, ◌*◌, ◌^◌, take}
 use Rattle.gpu_plan.specs.Passes.{bytes_alive}
 use Rattle.gpu_plan.proofs.passes.bytes_alive.Given as goal
 

@@ -1,5 +1,4 @@
-use Rattle.std.proofs.Common.{ℕ, sym, arith}
-use Rattle.std.specs.Prelude.{Contains}
+use Rattle.std.proofs.Common.{ℕ, arith}
 use Rattle.std.proofs.lemmas.Bool.{iff_false}
 use Rattle.gpu_plan.specs.Reuse.{Reuses}
 use Rattle.gpu_plan.proofs.Listing.{lists_more, lists_same, lists_is}
