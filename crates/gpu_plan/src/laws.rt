@@ -1,9 +1,12 @@
-//! What is one value: an order, its plan, and the best plan.
+//! What is one value: an order, its plan, and the best plan. What holds wherever no two resources meet.
 
-ghost use Rattle.std.specs.Prelude.{◌≡◌, ℕ, List};
+ghost use Rattle.std.specs.Prelude.{◌≡◌, ◌≢◌, ℕ, ◌<◌, ◌≤◌, ◌⊎◌, List, length, slice_index};
+ghost use Rattle.gpu_plan.specs.Plan.{ShareByte, resource_at};
+ghost use Rattle.gpu_plan.specs.Passes.{IsPeak};
 ghost use Rattle.gpu_plan.specs.Order.{IsOrder};
-ghost use Rattle.gpu_plan.specs.OrderPlan.{IsPlanBy};
-ghost use Rattle.gpu_plan.specs.Best.{IsBestOf, all_orders};
+ghost use Rattle.gpu_plan.specs.OrderPlan.{IsPlanBy, IsHeap};
+ghost use Rattle.gpu_plan.specs.Best.{IsBestOf, NoneMeet, all_orders};
+ghost use Rattle.gpu_plan.specs.Reuse.{Reuses};
 ghost use Rattle.gpu_plan.specs.declared.resource.Resource.{Resource};
 ghost use Rattle.gpu_plan.specs.declared.order.Order.{Order};
 
@@ -28,4 +31,20 @@ pub fn best_is_one(page: u64)
         → IsBestOf page resources all_orders order offsets heap
         → IsBestOf page resources all_orders other others size
         → (order ≡ other) × (offsets ≡ others) × (heap ≡ size) }
+{}
+
+/// However resources lie, if no two meet: their heap isn't below the peak.
+pub fn no_heap_is_below_the_peak(page: u64)
+    ensures { (resources : List Resource) (offsets : List ℕ) (heap peak : ℕ)
+        → NoneMeet page resources offsets → IsHeap resources offsets heap
+        → IsPeak resources peak → peak ≤ heap }
+{}
+
+/// Of two resources that share a byte one reuses the other's: it begins after the other's life.
+pub fn shared_bytes_are_reused(page: u64)
+    ensures { (resources : List Resource) (offsets : List ℕ) (i j : ℕ)
+        → NoneMeet page resources offsets → i < length resources → j < length resources → i ≢ j
+        → ShareByte (slice_index offsets i) (resource_at resources i).size
+        (slice_index offsets j) (resource_at resources j).size
+        → Reuses resources offsets i j ⊎ Reuses resources offsets j i }
 {}
