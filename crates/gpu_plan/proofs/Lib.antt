@@ -12,3 +12,4 @@ pub mod Apart
 pub mod Measure
 pub mod Listing
 pub mod Reusing
+pub mod Near

@@ -1,5 +1,5 @@
 -- Where a resource goes: at the least offset at which it is apart from each earlier one that is alive with it.
-use Rattle.std.specs.Prelude.{◌≡◌, ◌≢◌, ℕ, ◌+◌, ◌-◌, ◌/◌, ◌%◌, ◌^◌, ◌<◌, ◌≤◌, ◌⊎◌, List, ◌∷◌, ◌++◌, All, map, take, length, slice_index_or}
+use Rattle.std.specs.Prelude.{◌≡◌, ◌≢◌, ℕ, ◌+◌, ◌-◌, ◌/◌, ◌%◌, ◌^◌, ◌<◌, ◌≤◌, ◌⊎◌, List, ◌∷◌, ◌++◌, All, map, take, length, slice_index_or, Bool, nat_le, ◌&&◌}
 use Rattle.gpu_plan.specs.declared.resource.Resource.{Resource}
 use Rattle.gpu_plan.specs.declared.resource.Placed.{Placed}
 use Rattle.gpu_plan.specs.declared.resource.Kind.TheVariants.{Linear}
@@ -14,6 +14,10 @@ resource_at resources index = slice_index_or resources index no_resource
 -- both are alive in some pass
 abbrev pub Overlap : Resource → Resource → Type 0
 Overlap a b = (a.first ≤ b.last) × (b.first ≤ a.last)
+
+-- the same as a test
+abbrev pub overlaps : Resource → Resource → Bool
+overlaps a b = nat_le a.first b.last && nat_le b.first a.last
 
 -- bytes [o, o + m) and [p, p + n) have one in common
 abbrev pub ShareByte : ℕ → ℕ → ℕ → ℕ → Type 0
