@@ -7,25 +7,45 @@ use std::test::Fail;
 /// What a run ends with in which one request was refused.
 const TOLD: &str = "one call was refused, and nothing was lost";
 
-/// A request with a new block, one with a piece of it, a name, a committed resource and a report; how many of these calls were refused.
-fn calls(machine: &mut Machine, device: &mut SimD3D12) -> u64 {
+/// A request with a new block or a piece of one, and a name; how many of these calls were refused.
+fn piece_comes(machine: &mut Machine, device: &mut SimD3D12) -> u64 {
     let upload = piece(512, MemoryLocation::GpuToCpu, ResourceCategory::Buffer);
-    let mut refused = 0;
-    for _ in 0..2 {
-        let told = match allocate(machine, device, &upload) {
-            Err(_) => 1,
-            Ok(it) => {
-                let name = "a name of more than thirty bytes, kept apart";
-                u64::from(machine.rename(it.memory_type, &it.piece, name).is_err())
+    match allocate(machine, device, &upload) {
+        Err(_) => 1,
+        Ok(it) => {
+            let name = "a name of more than thirty bytes, kept apart";
+            u64::from(machine.rename(it.memory_type, &it.piece, name).is_err())
+        }
+    }
+}
+
+/// A committed resource; how many of these calls were refused.
+fn resource_comes(machine: &mut Machine) -> u64 {
+    match machine.begin_committed(1, MemoryLocation::GpuOnly, ResourceCategory::Buffer) {
+        Err(_) => 1,
+        Ok(()) => {
+            if machine.made(ID3D12Resource(1)).is_err() {
+                2
+            } else {
+                0
             }
-        };
-        refused += told;
+        }
     }
-    let committed = machine.begin_committed(1, MemoryLocation::GpuOnly, ResourceCategory::Buffer);
-    if committed.is_ok() && machine.made(ID3D12Resource(1)).is_err() {
-        refused += 2;
+}
+
+/// Calls that take memory; how many were refused.
+fn calls(machine: &mut Machine, device: &mut SimD3D12) -> u64 {
+    let told = [
+        piece_comes(machine, device),
+        piece_comes(machine, device),
+        resource_comes(machine),
+        u64::from(machine.report().is_err()),
+    ];
+    let mut refused: u64 = 0;
+    for one in told {
+        refused = refused.saturating_add(one);
     }
-    refused + u64::from(committed.is_err()) + u64::from(machine.report().is_err())
+    refused
 }
 
 #[test]

@@ -71,26 +71,55 @@ fn questions_and_answers(alloc: Global) -> Result<[bool; 9]> {
     ])
 }
 
-/// A name, a budget, a report, a leak, and the heap that goes back with its last piece.
+/// Whether a name and a budget that leaves no room are set, and the budget is kept.
+fn is_named_and_bounded(m: &mut Machine, it: &Allocated) -> bool {
+    let set = m.rename(3, &it.piece, "shadow map").is_ok()
+        && m.set_budget(3, Some(300_000_000)).is_ok();
+    match m.begin(&upload(1)) {
+        Err(AllocationError::BudgetExceeded) => set && m.budget(3) == Some(300_000_000),
+        _ => false,
+    }
+}
+
+/// Whether there is one leak, and its text has this name.
+fn is_only_leak(alloc: Global, m: &Machine, name: &str) -> bool {
+    match m.memory_types().leak_texts(alloc) {
+        Err(_) => false,
+        Ok(texts) => match texts.first() {
+            None => false,
+            Some(text) => text.contains(name) && m.leaks().count() == 1,
+        },
+    }
+}
+
+/// Whether so many bytes are told as allocated.
+fn holds(m: &Machine, bytes: u64) -> bool {
+    match m.report() {
+        Err(_) => false,
+        Ok(report) => report.total_allocated_bytes == bytes && m.capacity() == bytes,
+    }
+}
+
+/// Whether the piece is freed once, and its heap goes back.
+fn goes_back(m: &mut Machine, it: &Allocated) -> bool {
+    match m.free(3, &it.piece) {
+        Ok(Some(back)) => back.0 == 3 && m.free(3, &it.piece).is_err(),
+        _ => false,
+    }
+}
+
+/// A piece in a heap of its own, from its request to its end.
 fn a_piece_comes_and_goes(alloc: Global) -> Result<[bool; 6]> {
     let mut m = machine(alloc)?;
     let _ = m.begin(&upload(300_000_000))?;
     let it = m.granted(ID3D12Heap(3))?;
-    m.rename(3, &it.piece, "staging")?;
-    m.set_budget(3, Some(300_000_000))?;
-    let over = m.begin(&upload(1));
-    let report = m.report()?;
-    let texts = m.memory_types().leak_texts(alloc)?;
-    let named = texts.iter().any(|text| text.contains("staging")) && m.leaks().count() == 1;
-    let there = m.block(3, 0).is_some_and(|heap| heap.0 == 3);
-    let back = m.free(3, &it.piece)?;
     Ok([
-        matches!(over, Err(AllocationError::BudgetExceeded)),
-        m.budget(3) == Some(300_000_000),
-        report.total_allocated_bytes == 300_000_000,
-        named && there,
-        back.is_some_and(|heap| heap.0 == 3),
-        m.free(3, &it.piece).is_err() && m.capacity() == 0,
+        is_named_and_bounded(&mut m, &it),
+        is_only_leak(alloc, &m, "shadow map"),
+        holds(&m, 300_000_000),
+        m.block(3, 0).is_some_and(|heap| heap.0 == 3),
+        goes_back(&mut m, &it),
+        holds(&m, 0),
     ])
 }
 

@@ -124,10 +124,10 @@ fn steps_alike(alloc: Global, count: u64) -> u64 {
     };
     let mut numbers = Numbers { state: 77 };
     let mut live = Vec::new(alloc);
-    let mut alike = 0;
+    let mut alike: u64 = 0;
     for _ in 0..count {
         if step(alloc, &mut pair, &mut numbers, &mut live) && pair.reports_alike(alloc) {
-            alike += 1;
+            alike = alike.saturating_add(1);
         }
     }
     let Pair {

@@ -7,20 +7,29 @@ use std::test::Fail;
 /// What a run ends with in which one request was refused.
 const TOLD: &str = "one call was refused, and nothing was lost";
 
-/// A request with a new block, one with a piece of it, a name and a report; how many of these calls were refused.
-fn calls(machine: &mut Machine, device: &mut SimMetal) -> u64 {
-    let mut refused = 0;
-    for _ in 0..2 {
-        let told = match allocate(machine, device, &piece(512, MemoryLocation::GpuToCpu)) {
-            Err(_) => 1,
-            Ok(it) => {
-                let name = "a name of more than thirty bytes, kept apart";
-                u64::from(machine.rename(it.memory_type, &it.piece, name).is_err())
-            }
-        };
-        refused += told;
+/// A request with a new block or a piece of one, and a name; how many of these calls were refused.
+fn piece_comes(machine: &mut Machine, device: &mut SimMetal) -> u64 {
+    match allocate(machine, device, &piece(512, MemoryLocation::GpuToCpu)) {
+        Err(_) => 1,
+        Ok(it) => {
+            let name = "a name of more than thirty bytes, kept apart";
+            u64::from(machine.rename(it.memory_type, &it.piece, name).is_err())
+        }
     }
-    refused + u64::from(machine.report().is_err())
+}
+
+/// Calls that take memory; how many were refused.
+fn calls(machine: &mut Machine, device: &mut SimMetal) -> u64 {
+    let told = [
+        piece_comes(machine, device),
+        piece_comes(machine, device),
+        u64::from(machine.report().is_err()),
+    ];
+    let mut refused: u64 = 0;
+    for one in told {
+        refused = refused.saturating_add(one);
+    }
+    refused
 }
 
 #[test]
