@@ -60,7 +60,8 @@ pub fn plan(alloc: Global, resources: &[Resource], page: u64) -> Result<HeapPlan
     ensures peak { IfOk result (λ plan. IsPeak resources.now plan.peak) }
     ensures heap { IfOk result (λ plan. plan.peak ≤ plan.heap) }
     // too large exactly where no order's heap fits 64 bits
-    ensures large { IfErr result (λ e. e ≡ PlanError.TooLarge → NoneFits page resources.now all_orders) }
+    ensures large { IfErr result (λ e. e ≡ PlanError.TooLarge
+        → NoneFits page resources.now all_orders) }
     ensures fits { NoneFits page resources.now all_orders → IsErr result }
 {
     let starts = starts(alloc, resources)?;

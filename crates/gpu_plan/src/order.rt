@@ -51,7 +51,13 @@ struct Rank {
 impl Rank {
     /// A rank by one number.
     fn by(most: u128, index: usize) -> Rank
-        ensures { result ≡ record { most = record { 0 = most }; pass = 0; second = record { 0 = 0 }; third = record { 0 = 0 }; index = index } }
+        ensures { result ≡ record {
+          most = record { 0 = most };
+          pass = 0;
+          second = record { 0 = 0 };
+          third = record { 0 = 0 };
+          index = index;
+        } }
     {
         Rank {
             most: Reverse(most),
