@@ -1,14 +1,14 @@
 -- What is alive in a pass, and that most of it is alive where a life begins.
 use Rattle.std.proofs.Common.{◌≡◌, ◌∙◌, refl, sym, ap, subst, ℕ, suc, ◌+◌, ◌<◌, ◌≤◌, ◌⊎◌, inl, inr, if◌then◌else◌, true, false, List, [], ◌∷◌, length, get_or, take, arith}
-use Rattle.std.specs.Prelude.{All, nat_le}
+use Rattle.std.specs.Prelude.{All, Contains, nat_le}
 use Rattle.std.proofs.lemmas.Bool.{le-leb, lt-leb, leb-true, and_parts, and_from, and_left, and_right, cases_lt, cases_Bool, both_ways}
-use Rattle.std.proofs.lemmas.List.{get_or-map, get_or_default, length-map}
+use Rattle.std.proofs.lemmas.List.{get_or_default}
 use Rattle.std.proofs.lemmas.List.Sums.{sum_by-cons, sum_by_more}
-use Rattle.std.proofs.lemmas.List.Elements.{All-nil, All-cons, All-head, All-tail}
+use Rattle.std.proofs.lemmas.List.Elements.{All-nil, All-cons, All-head, All-tail, All-contains}
 use Rattle.gpu_plan.specs.declared.resource.Resource.{Resource}
 use Rattle.gpu_plan.specs.declared.passes.Start.{Start}
 use Rattle.gpu_plan.specs.Plan.{no_resource, resource_at}
-use Rattle.gpu_plan.specs.Passes.{is_alive, bytes_alive, IsPeak, IsBusiest, starts_of}
+use Rattle.gpu_plan.specs.Passes.{is_alive, bytes_alive, AreTrue, HasStart, AreStarts, IsPeak, IsBusiest}
 
 pub alive_in : (pass : ℕ) (r : Resource) → r.first ≤ pass → pass ≤ r.last → is_alive pass r ≡ true
 alive_in pass r begun going = and_from (nat_le r.first pass) (nat_le pass r.last) (le-leb r.first pass begun) (le-leb pass r.last going)
@@ -121,47 +121,40 @@ latest_most resources pass l = alive_le pass l.one.first resources (λ k d lt al
     let up = alive_from pass (get_or resources k d) alive_here in
     alive_in l.one.first (get_or resources k d) begun (omega arith))
 
--- the starts, one by one
-pub start_at : (resources : List Resource) (k : ℕ) (r : Resource) (d : Start) → k < length resources → get_or resources k r ≡ r → get_or (starts_of resources) k d ≡ record { pass = r.first; bytes = bytes_alive resources r.first }
-start_at resources k r d lt e =
-    let f : Resource → Start = λ r. record { pass = r.first; bytes = bytes_alive resources r.first } in
-    get_or-map f resources k r d lt ∙ ap f e
+-- the bytes at the pass of a start that is there
+pub start_bytes : (resources : List Resource) (starts : List Start) (pass : ℕ) (h : HasStart starts pass) → AreTrue resources starts → h.start.bytes ≡ bytes_alive resources pass
+start_bytes resources starts pass h told =
+    All-contains (λ (s : Start). s.bytes ≡ bytes_alive resources s.pass) starts h.start told h.listed ∙ ap (λ (p : ℕ). bytes_alive resources p) h.at
 
-pub start_of : (resources : List Resource) (pass : ℕ) (l : Latest resources pass) (d : Start) → get_or (starts_of resources) l.index d ≡ record { pass = l.one.first; bytes = bytes_alive resources l.one.first }
-start_of resources pass l d = start_at resources l.index l.one d l.here (l.is l.one)
-
-pub length_starts : (resources : List Resource) (starts : List Start) → starts ≡ starts_of resources → length starts ≡ length resources
-length_starts resources starts same =
-    let f : Resource → Start = λ r. record { pass = r.first; bytes = bytes_alive resources r.first } in
-    ap (λ (s : List Start). length s) same ∙ length-map resources f
+-- where the life began that began last of those alive in a pass
+has_latest : (resources : List Resource) (starts : List Start) (pass : ℕ) (l : Latest resources pass) → AreStarts resources starts → HasStart starts l.one.first
+has_latest resources starts pass l are = subst (λ (r : Resource). HasStart starts r.first) (l.is l.one) (are.each l.index l.one l.here)
 
 -- what is known of the greatest start
-pub peak_is : (resources : List Resource) (starts : List Start) (bytes : ℕ) → starts ≡ starts_of resources → ((k : ℕ) (d : Start) → k < length resources → (get_or starts k d).bytes ≤ bytes)
-    → (bytes ≡ 0) ⊎ ((k : ℕ) × (k < length resources) × ((d : Start) → (get_or starts k d).bytes ≡ bytes)) → IsPeak resources bytes
-peak_is resources starts bytes same below met =
+pub peak_is : (resources : List Resource) (starts : List Start) (bytes : ℕ) → AreStarts resources starts → All (λ s. s.bytes ≤ bytes) starts
+    → (bytes ≡ 0) ⊎ ((k : ℕ) × (k < length starts) × ((d : Start) → (get_or starts k d).bytes ≡ bytes)) → IsPeak resources bytes
+peak_is resources starts bytes are below met =
     let most : (pass : ℕ) → bytes_alive resources pass ≤ bytes = λ pass. elim (latest pass resources) [
       | inl none ↦ let e = alive_none pass resources none in omega arith
       | inr l ↦
-          let d : Start = record { pass = 0; bytes = 0 } in
           let up = latest_most resources pass l in
-          let here = below l.index d l.here in
-          let at : (get_or starts l.index d).bytes ≡ bytes_alive resources l.one.first = ap (λ (s : List Start). (get_or s l.index d).bytes) same ∙ ap (λ (s : Start). s.bytes) (start_of resources pass l d) in
+          let h = has_latest resources starts pass l are in
+          let at = start_bytes resources starts l.one.first h are.told in
+          let here = All-contains (λ (s : Start). s.bytes ≤ bytes) starts h.start below h.listed in
           omega arith
     ] in
     elim met [
       | inl none ↦ record { most = most; pass = 0; met = let m = most 0 in omega arith }
       | inr one ↦
           let d : Start = record { pass = 0; bytes = 0 } in
-          let r : Resource = resource_at resources one.0 in
-          let at : (get_or starts one.0 d).bytes ≡ bytes_alive resources r.first = ap (λ (s : List Start). (get_or s one.0 d).bytes) same ∙ ap (λ (s : Start). s.bytes) (start_at resources one.0 r d one.1 (get_or_default resources one.0 r no_resource one.1)) in
-          record { most = most; pass = r.first; met = sym at ∙ one.2 d }
+          record { most = most; pass = (get_or starts one.0 d).pass; met = sym (are.told one.0 d one.1) ∙ one.2 d }
     ]
 
 -- the best start of a life among the first ones
 pub record IsBestStart (starts : List Start) (first last i : ℕ) (best : Start) : Type 0 where
   pub begun : first ≤ best.pass
   pub going : first ≤ last → best.pass ≤ last
-  pub one : (k : ℕ) × (k < length starts) × ((d : Start) → get_or starts k d ≡ best)
+  pub told : (resources : List Resource) → AreTrue resources starts → HasStart starts first → best.bytes ≡ bytes_alive resources best.pass
   pub most : (k : ℕ) (d : Start) → k < i → first ≤ (get_or starts k d).pass → (get_or starts k d).pass ≤ last
       → ((get_or starts k d).bytes < best.bytes) ⊎ (((get_or starts k d).bytes ≡ best.bytes) × (best.pass ≤ (get_or starts k d).pass))
 
@@ -169,11 +162,11 @@ pub record IsBestStart (starts : List Start) (first last i : ℕ) (best : Start)
 abbrev pub IsBusier : (first last : ℕ) → Start → Start → Type 0
 IsBusier first last start than = (first ≤ start.pass) × (start.pass ≤ last) × ((than.bytes < start.bytes) ⊎ ((start.bytes ≡ than.bytes) × (start.pass < than.pass)))
 
-pub best_first : (starts : List Start) (last index : ℕ) (d : Start) → index < length starts → IsBestStart starts (get_or starts index d).pass last 0 (get_or starts index d)
-best_first starts last index d lt = record {
+pub best_first : (starts : List Start) (first last : ℕ) (best : Start) → best.pass ≡ first → ((resources : List Resource) → AreTrue resources starts → HasStart starts first → best.bytes ≡ bytes_alive resources first) → IsBestStart starts first last 0 best
+best_first starts first last best at told = record {
   begun = omega arith;
-  going = λ le. le;
-  one = (index, lt, λ e. get_or_default starts index e d lt);
+  going = λ le. omega arith;
+  told = λ resources true has. told resources true has ∙ ap (λ (p : ℕ). bytes_alive resources p) (sym at);
   most = λ k e none. absurd (omega arith);
 }
 
@@ -181,7 +174,7 @@ pub best_new : (starts : List Start) (first last i : ℕ) (best d : Start) → i
 best_new starts first last i best d lt b better = record {
   begun = better.0;
   going = λ le. better.1;
-  one = (i, lt, λ e. get_or_default starts i e d lt);
+  told = λ resources true has. true i d lt;
   most = λ k e below from to. elim (cases_lt k i) [
     | inl low ↦ let was = b.most k e low from to in elim was [
       | inl less ↦ elim better.2 [ inl up ↦ inl (omega arith) | inr eq ↦ let a = eq.0 in inl (omega arith) ]
@@ -200,7 +193,7 @@ pub best_old : (starts : List Start) (first last i : ℕ) (best d : Start) → i
 best_old starts first last i best d lt b not = record {
   begun = b.begun;
   going = b.going;
-  one = b.one;
+  told = b.told;
   most = λ k e below from to. elim (cases_lt k i) [
     | inl low ↦ b.most k e low from to
     | inr high ↦
@@ -221,25 +214,20 @@ best_old starts first last i best d lt b not = record {
   ];
 }
 
+-- the best one beside one of the list
+most_of : (starts : List Start) (first last i : ℕ) (best : Start) → IsBestStart starts first last i best → length starts ≤ i → (s : Start) → Contains starts s → first ≤ s.pass → s.pass ≤ last → (s.bytes < best.bytes) ⊎ ((s.bytes ≡ best.bytes) × (best.pass ≤ s.pass))
+most_of starts first last i best b all s listed = All-contains (λ (x : Start). first ≤ x.pass → x.pass ≤ last → (x.bytes < best.bytes) ⊎ ((x.bytes ≡ best.bytes) × (best.pass ≤ x.pass))) starts s (λ k d lt from to. b.most k d (omega arith) from to) listed
+
 -- what is known of the best start in a life
-pub busiest_is : (resources : List Resource) (starts : List Start) (index i : ℕ) (best : Start) → starts ≡ starts_of resources → index < length resources → (resource_at resources index).first ≤ (resource_at resources index).last
-    → length resources ≤ i → IsBestStart starts (resource_at resources index).first (resource_at resources index).last i best → IsBusiest resources (resource_at resources index) best.pass × (best.bytes ≡ bytes_alive resources best.pass)
-busiest_is resources starts index i best_one same here lives all b =
+pub busiest_is : (resources : List Resource) (starts : List Start) (index i : ℕ) (best : Start) → AreStarts resources starts → index < length resources → (resource_at resources index).first ≤ (resource_at resources index).last
+    → length starts ≤ i → IsBestStart starts (resource_at resources index).first (resource_at resources index).last i best → IsBusiest resources (resource_at resources index) best.pass × (best.bytes ≡ bytes_alive resources best.pass)
+busiest_is resources starts index i best_one are here lives all b =
     let pass : ℕ = best_one.pass in
     let bytes : ℕ = best_one.bytes in
     let begun = b.begun in
     let going = b.going lives in
-    let one = b.one in
-    let many = length_starts resources starts same in
-    let one_here : one.0 < length resources = let x = one.1 in omega arith in
-    let d : Start = record { pass = 0; bytes = 0 } in
     let r : Resource = resource_at resources index in
-    let s : Resource = resource_at resources one.0 in
-    let start : best_one ≡ record { pass = s.first; bytes = bytes_alive resources s.first } =
-    sym (one.2 d) ∙ (ap (λ (s : List Start). get_or s one.0 d) same ∙ start_at resources one.0 s d one_here (get_or_default resources one.0 s no_resource one_here)) in
-    let at_pass : pass ≡ s.first = ap (λ (x : Start). x.pass) start in
-    let at_bytes : bytes ≡ bytes_alive resources s.first = ap (λ (x : Start). x.bytes) start in
-    let bytes_is : bytes ≡ bytes_alive resources pass = at_bytes ∙ ap (λ (p : ℕ). bytes_alive resources p) (sym at_pass) in
+    let bytes_is : bytes ≡ bytes_alive resources pass = b.told resources are.told (are.each index no_resource here) in
     let reach : (p : ℕ) → r.first ≤ p → p ≤ r.last → (q : ℕ) × (q ≤ p) × (bytes_alive resources p ≤ bytes_alive resources q) × ((bytes_alive resources q < bytes) ⊎ ((bytes_alive resources q ≡ bytes) × (pass ≤ q))) =
     λ p from to. elim (latest p resources) [
       | inl none ↦ absurd (both_ways (is_alive p r) (none index no_resource here) (alive_in p r from to))
@@ -247,11 +235,10 @@ busiest_is resources starts index i best_one same here lives all b =
           let up = latest_most resources p l in
           let on = alive_from p l.one l.alive in
           let low = l.last index no_resource here (alive_in p r from to) in
-          let e : get_or starts l.index d ≡ record { pass = l.one.first; bytes = bytes_alive resources l.one.first } = ap (λ (s : List Start). get_or s l.index d) same ∙ start_of resources p l d in
-          let e_pass : (get_or starts l.index d).pass ≡ l.one.first = ap (λ (x : Start). x.pass) e in
-          let e_bytes : (get_or starts l.index d).bytes ≡ bytes_alive resources l.one.first = ap (λ (x : Start). x.bytes) e in
-          let l_here = l.here in
-          let m = b.most l.index d (omega arith) (omega arith) (omega arith) in (
+          let h = has_latest resources starts p l are in
+          let e_pass = h.at in
+          let e_bytes = start_bytes resources starts l.one.first h are.told in
+          let m = most_of starts r.first r.last i best_one b all h.start h.listed (omega arith) (omega arith) in (
             l.one.first,
             on.0,
             up,
@@ -270,15 +257,9 @@ busiest_is resources starts index i best_one same here lives all b =
       bytes_is,
     )
 
--- a start's pass is where its resource's life begins
-pub start_pass : (resources : List Resource) (starts : List Start) (index : ℕ) (d : Start) → starts ≡ starts_of resources → index < length resources → (get_or starts index d).pass ≡ (resource_at resources index).first
-start_pass resources starts index d same here =
-    ap (λ (s : List Start). (get_or s index d).pass) same ∙ ap (λ (s : Start). s.pass) (start_at resources index (resource_at resources index) d here (get_or_default resources index (resource_at resources index) no_resource here))
-
-pub busiest_from : (resources : List Resource) (starts : List Start) (first last index i : ℕ) (best : Start) → starts ≡ starts_of resources → index < length starts → first ≡ (resource_at resources index).first → (resource_at resources index).last ≡ last
-    → (resource_at resources index).first ≤ last → length starts ≤ i → IsBestStart starts first last i best → IsBusiest resources (resource_at resources index) best.pass × (best.bytes ≡ bytes_alive resources best.pass)
-busiest_from resources starts first last index i best same here begins ends lives all b =
-    let many = length_starts resources starts same in
-    let at_first : IsBestStart starts (resource_at resources index).first last i best = subst (λ (f : ℕ). IsBestStart starts f last i best) begins b in
+pub busiest_from : (resources : List Resource) (starts : List Start) (first last index i : ℕ) (best : Start) → AreStarts resources starts → index < length resources → (resource_at resources index).first ≡ first → (resource_at resources index).last ≡ last
+    → first ≤ last → length starts ≤ i → IsBestStart starts first last i best → IsBusiest resources (resource_at resources index) best.pass × (best.bytes ≡ bytes_alive resources best.pass)
+busiest_from resources starts first last index i best are here begins ends lives all b =
+    let at_first : IsBestStart starts (resource_at resources index).first last i best = subst (λ (f : ℕ). IsBestStart starts f last i best) (sym begins) b in
     let at_last : IsBestStart starts (resource_at resources index).first (resource_at resources index).last i best = subst (λ (l : ℕ). IsBestStart starts (resource_at resources index).first l i best) (sym ends) at_first in
-    busiest_is resources starts index i best same (omega arith) (omega arith) (omega arith) at_last
+    busiest_is resources starts index i best are here (omega arith) all at_last

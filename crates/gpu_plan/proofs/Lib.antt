@@ -1,6 +1,8 @@
 pub mod Rounding
 pub mod Paging
 pub mod Skipping
+pub mod Spanning
+pub mod Listed
 pub mod Planning
 pub mod Alive
 pub mod Ordering
@@ -12,4 +14,3 @@ pub mod Apart
 pub mod Measure
 pub mod Listing
 pub mod Reusing
-pub mod Near

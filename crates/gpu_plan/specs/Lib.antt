@@ -7,3 +7,5 @@ pub mod OrderPlan
 pub mod Best
 pub mod PlanErrors
 pub mod Reuse
+pub mod Span
+pub mod ByKind

@@ -1,5 +1,5 @@
 -- What is alive in a pass.
-use Rattle.std.specs.Prelude.{◌≡◌, ℕ, ◌<◌, ◌≤◌, if◌then◌else◌, ◌&&◌, Bool, nat_le, List, map, sum_by}
+use Rattle.std.specs.Prelude.{◌≡◌, ℕ, ◌<◌, ◌≤◌, if◌then◌else◌, ◌&&◌, Bool, nat_le, List, All, Contains, sum_by}
 use Rattle.gpu_plan.specs.declared.resource.Resource.{Resource}
 use Rattle.gpu_plan.specs.declared.passes.Start.{Start}
 
@@ -24,6 +24,17 @@ pub record IsBusiest (resources : List Resource) (r : Resource) (pass : ℕ) : T
   pub most : (p : ℕ) → r.first ≤ p → p ≤ r.last → bytes_alive resources p ≤ bytes_alive resources pass
   pub first : (p : ℕ) → r.first ≤ p → p < pass → bytes_alive resources p < bytes_alive resources pass
 
--- the first pass of each resource, and the bytes alive in it
-abbrev pub starts_of : List Resource → List Start
-starts_of resources = map (λ r. record { pass = r.first; bytes = bytes_alive resources r.first }) resources
+-- each start has the bytes that are alive in its pass
+abbrev pub AreTrue : List Resource → List Start → Type 0
+AreTrue resources starts = All (λ s. s.bytes ≡ bytes_alive resources s.pass) starts
+
+-- one of the starts is at that pass
+pub record HasStart (starts : List Start) (pass : ℕ) : Type 0 where
+  pub start : Start
+  pub listed : Contains starts start
+  pub at : start.pass ≡ pass
+
+-- the starts of the lives of all resources, and maybe others, each with the bytes that are alive in its pass
+pub record AreStarts (resources : List Resource) (starts : List Start) : Type 0 where
+  pub told : AreTrue resources starts
+  pub each : All (λ r. HasStart starts r.first) resources

@@ -2,7 +2,7 @@
 
 ghost use Rattle.std.specs.Prelude.{◌≡◌, ℕ, ◌+◌, ◌^◌, ◌<◌, ◌≤◌, All, IfOk, IfErr, IsErr, MatchOption};
 ghost use Rattle.gpu_plan.specs.Plan.{IsValid};
-ghost use Rattle.gpu_plan.specs.Passes.{starts_of, IsPeak};
+ghost use Rattle.gpu_plan.specs.Passes.{AreStarts, IsPeak};
 ghost use Rattle.gpu_plan.specs.Best.{IsBestOf, NoneFits, NoneMeet, AreAligned, all_orders};
 
 use crate::error::PlanError;
@@ -34,7 +34,7 @@ fn best_plan(
 ) -> Result<Option<OrderPlan>, AllocError>
     requires valid { All IsValid resources.now }
     requires paged { 0 < page }
-    requires starts { starts.now ≡ starts_of resources.now }
+    requires starts { AreStarts resources.now starts.now }
     ensures { IfOk result (λ best. MatchOption best (NoneFits page resources.now all_orders)
         (λ plan. IsBestOf page resources.now all_orders plan.order plan.offsets.items plan.heap
         × (plan.heap < 2 ^ 64))) }

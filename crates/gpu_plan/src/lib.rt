@@ -2,6 +2,7 @@
 #![tactic(auto)]
 
 mod best;
+mod by_kind;
 mod error;
 mod in_order;
 pub mod laws;
@@ -11,6 +12,7 @@ mod passes;
 mod place;
 mod resource;
 mod reuse;
+mod span;
 
 pub use best::{HeapPlan, plan};
 pub use error::PlanError;
@@ -18,4 +20,4 @@ pub use in_order::plan_in_order;
 pub use order::Order;
 pub use place::least_offset;
 pub use resource::{Kind, Placed, Resource, are_valid};
-pub use reuse::reuses;
+pub use reuse::{reused_by, reuses};

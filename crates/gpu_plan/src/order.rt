@@ -3,7 +3,7 @@
 ghost use Rattle.std.specs.Prelude.{◌≡◌, ℕ, ◌<◌, ◌≤◌, All, IfOk, length, map};
 ghost use Rattle.std.specs.List.{range_with_len};
 ghost use Rattle.gpu_plan.specs.Plan.{IsValid};
-ghost use Rattle.gpu_plan.specs.Passes.{starts_of};
+ghost use Rattle.gpu_plan.specs.Passes.{AreStarts};
 ghost use Rattle.gpu_plan.specs.Order.{IsOrder};
 ghost use Rattle.gpu_plan.specs.Rank.{Ranks};
 
@@ -73,7 +73,7 @@ impl Rank {
 fn rank_of(order: Order, resources: &[Resource], starts: &[Start], index: usize) -> Rank
     requires valid { All IsValid resources.now }
     requires index { index < length resources.now }
-    requires starts { starts.now ≡ starts_of resources.now }
+    requires starts { AreStarts resources.now starts.now }
     ensures index { result.index ≡ index }
     ensures ranks { Ranks order resources.now result }
 {
@@ -91,7 +91,7 @@ fn rank_of(order: Order, resources: &[Resource], starts: &[Start], index: usize)
             ..Rank::by(r.size.ilog2() as u128, index)
         },
         Order::Breadth => {
-            let start = busiest(starts, index, r.last);
+            let start = busiest(starts, r.first, r.last);
             Rank {
                 pass: start.pass,
                 second: Reverse(r.size),
@@ -109,7 +109,7 @@ fn all_ranks(
     starts: &[Start],
 ) -> Result<Vec<Rank>, AllocError>
     requires valid { All IsValid resources.now }
-    requires starts { starts.now ≡ starts_of resources.now }
+    requires starts { AreStarts resources.now starts.now }
     ensures indices { IfOk result (λ ranks. map (λ x. x.index) ranks.items
         ≡ range_with_len 0 (length resources.now)) }
     ensures ranks { IfOk result (λ ranks. All (Ranks order resources.now) ranks.items) }
@@ -129,7 +129,7 @@ pub fn indices_in(
     starts: &[Start],
 ) -> Result<Vec<usize>, AllocError>
     requires valid { All IsValid resources.now }
-    requires starts { starts.now ≡ starts_of resources.now }
+    requires starts { AreStarts resources.now starts.now }
     ensures { IfOk result (λ indices. IsOrder order resources.now indices.items) }
 {
     let mut ranks = all_ranks(alloc, order, resources, starts)?;

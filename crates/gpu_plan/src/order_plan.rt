@@ -4,7 +4,7 @@ ghost use Rattle.std.specs.Prelude.{◌≡◌, ℕ, ◌^◌, ◌<◌, ◌≤◌,
 ghost use Rattle.std.specs.List.{range_with_len};
 ghost use Rattle.std.specs.List.Sorted.{IsPermutation};
 ghost use Rattle.gpu_plan.specs.Plan.{resource_at, IsValid};
-ghost use Rattle.gpu_plan.specs.Passes.{starts_of};
+ghost use Rattle.gpu_plan.specs.Passes.{AreStarts};
 ghost use Rattle.gpu_plan.specs.OrderPlan.{IsPlanBy, IsHeap, IsBetter, end_at};
 ghost use Rattle.gpu_plan.specs.declared.resource.Placed.{Placed};
 
@@ -97,7 +97,7 @@ pub fn plan_by(
 ) -> Result<Option<OrderPlan>, AllocError>
     requires valid { All IsValid resources.now }
     requires paged { 0 < page }
-    requires starts { starts.now ≡ starts_of resources.now }
+    requires starts { AreStarts resources.now starts.now }
     ensures order { IfOk result (λ found. IfSome found (λ plan. plan.order ≡ order)) }
     ensures planned { IfOk result (λ found. IfSome found (λ plan.
         IsPlanBy page order resources.now plan.offsets.items)) }

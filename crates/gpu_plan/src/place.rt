@@ -17,7 +17,7 @@ enum Outcome {
 }
 
 /// The least multiple of `step` from a place on, if it has 64 bits.
-fn round_up(place: u64, step: u64) -> Option<u64>
+pub fn round_up(place: u64, step: u64) -> Option<u64>
     requires { 0 < step }
     ensures { MatchOption result ((o : ℕ) → place ≤ o → o % step ≡ 0 → 2 ^ 64 ≤ o)
         (λ n. (place ≤ n) × (n % step ≡ 0) × ((o : ℕ) → place ≤ o → o % step ≡ 0 → n ≤ o)) }
@@ -57,7 +57,7 @@ fn share_page(o: u64, r: &Resource, p: &Placed, page: u64) -> bool
 }
 
 /// The place behind the page on which a byte lies, if it has 64 bits.
-fn page_end(last: u64, page: u64) -> Option<u64>
+pub fn page_end(last: u64, page: u64) -> Option<u64>
     requires { 0 < page }
     ensures { MatchOption result ((q : ℕ) → q < 2 ^ 64 → q / page ≤ last / page)
         (λ n. ((q : ℕ) → q < n → q / page ≤ last / page) × ((q : ℕ) → q / page ≤ last / page → q < n)) }

@@ -19,8 +19,36 @@ fn is_reused(earlier: &Placed, later: &Placed) -> bool
         && (p < o || p - o < earlier.resource.size)
 }
 
-/// The resources whose life ended before this one's begins, and some of whose bytes it has: exactly these, the indices ascending. An
-/// aliasing barrier goes between each of them and this one.
+/// The resources whose life ended before this one's begins, and some of whose bytes it has at these offsets: exactly these, the indices
+/// ascending. An aliasing barrier goes between each of them and this one.
+pub fn reused_by(
+    alloc: Global,
+    resources: &[Resource],
+    offsets: &[u64],
+    index: usize,
+) -> Result<Vec<usize>, AllocError>
+    requires each { length offsets.now ≡ length resources.now }
+    requires index { index < length resources.now }
+    ensures { IfOk result (λ found. AreReused resources.now offsets.now index found.items) }
+{
+    let later = Placed {
+        resource: resources[index],
+        offset: offsets[index],
+    };
+    let mut found = Vec::new(alloc);
+    for i in 0..resources.len() {
+        let earlier = Placed {
+            resource: resources[i],
+            offset: offsets[i],
+        };
+        if is_reused(&earlier, &later) {
+            found.push(i)?;
+        }
+    }
+    Ok(found)
+}
+
+/// The same at the offsets of a plan.
 pub fn reuses(
     alloc: Global,
     resources: &[Resource],
@@ -32,19 +60,5 @@ pub fn reuses(
     ensures { IfOk result (λ found.
         AreReused resources.now plan.now.offsets.items index found.items) }
 {
-    let later = Placed {
-        resource: resources[index],
-        offset: plan.offsets[index],
-    };
-    let mut found = Vec::new(alloc);
-    for i in 0..resources.len() {
-        let earlier = Placed {
-            resource: resources[i],
-            offset: plan.offsets[i],
-        };
-        if is_reused(&earlier, &later) {
-            found.push(i)?;
-        }
-    }
-    Ok(found)
+    reused_by(alloc, resources, &plan.offsets, index)
 }

@@ -5,7 +5,7 @@ ghost use Rattle.std.specs.Prelude.{◌<◌};
 use crate::frame::{frame, resource};
 use gpu_plan::{
     HeapPlan, Kind, Order, Placed, PlanError, Resource, are_valid, least_offset, plan,
-    plan_in_order, reuses,
+    plan_in_order, reused_by, reuses,
 };
 use std::alloc::Global;
 use std::process::Abort;
@@ -82,6 +82,8 @@ fn a_resource_reuses_bytes_of_those_before_it(rt: HostRuntime) -> Result<(), Fai
     let expected: [&[usize]; 6] = [&[], &[], &[], &[1], &[1], &[2]];
     for (index, earlier) in expected.iter().enumerate() {
         let found = reuses(rt.alloc(), &frame, &plan, index)?;
+        assert_eq!(rt; found.as_slice(), *earlier, "resource {index}");
+        let found = reused_by(rt.alloc(), &frame, &plan.offsets, index)?;
         assert_eq!(rt; found.as_slice(), *earlier, "resource {index}");
     }
     Ok(())

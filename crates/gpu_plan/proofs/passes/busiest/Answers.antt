@@ -1,7 +1,7 @@
 use Rattle.std.proofs.Common.{arith}
 use Rattle.std.proofs.lemmas.Bool.{iff_false}
 use Rattle.gpu_plan.specs.declared.passes.Start.{Start}
-use Rattle.gpu_plan.proofs.Alive.{best_first, best_new, best_old, busiest_from, length_starts, start_pass}
+use Rattle.gpu_plan.proofs.Alive.{best_first, best_new, best_old, busiest_from}
 use Rattle.gpu_plan.proofs.passes.busiest.Goals as goal
 use Rattle.gpu_plan.proofs.passes.busiest.Goals.{then-is_within+then-is_busier, else-is_within, else-is_within-via-then-is_within+else-is_busier, else-is_within-via-else-is_within}
 
@@ -9,8 +9,7 @@ none : Start
 none = record { pass = 0; bytes = 0 }
 
 pub loop-start-init : goal.loop-start-init
-unfolding none
-loop-start-init c = best_first c.args.starts.now c.args.last c.args.index none c.requires
+loop-start-init c = best_first c.args.starts.now c.args.first c.args.last _ c.start_at-best.ensures.pass c.start_at-best.ensures.bytes
 
 pub loop-start-preserved : goal.loop-start-preserved
 unfolding none
@@ -25,8 +24,4 @@ loop-start-preserved c = elim c.if-is_within.branch [
 ]
 
 pub returns : goal.returns
-unfolding none
-returns c = λ resources same last lives.
-    let many = length_starts resources c.args.starts.now same in
-    busiest_from resources c.args.starts.now _ c.args.last c.args.index c.loop-start.start-index c.loop-start.best same c.requires
-    (start_pass resources c.args.starts.now c.args.index none same (let lt = c.requires in omega arith)) last lives (omega arith) c.loop-start.invariant
+returns c = λ resources index are here begins ends lives. busiest_from resources c.args.starts.now c.args.first c.args.last index c.loop-start.start-index c.loop-start.best are here begins ends lives (omega arith) c.loop-start.invariant
