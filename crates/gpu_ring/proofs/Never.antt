@@ -1,6 +1,6 @@
 -- A ring that is large enough for all frames in flight, the open one and one request serves each request of each list of calls.
 use Rattle.std.proofs.Common.{◌≡◌, ◌∙◌, refl, sym, ap, subst, ℕ, zero, suc, ◌+◌, ◌-◌, ◌*◌, ◌%◌, ◌==◌, ◌<◌, ◌≤◌, inl, inr, if◌then◌else◌, Bool, true, false, List, [], ◌∷◌, ◌++◌, length, take, take-add, drop, suc-mul, Option, Some, None, IsSome, arith}
-use Rattle.std.specs.Prelude.{All, sum}
+use Rattle.std.specs.Prelude.{All, sum, sum_by}
 use Rattle.std.proofs.Math.Nat.{mod-lt}
 use Rattle.std.proofs.lemmas.Bool.{cases_lt}
 use Rattle.std.proofs.lemmas.Bool.Decides.{nat_tests}
@@ -8,10 +8,11 @@ use Rattle.std.proofs.lemmas.List.Elements.{All-nil, All-cons, All-head, All-tai
 use Rattle.std.proofs.lemmas.List.Sums.{sum_by-cons, sum_by-append, sum_by-take-drop, sum_by-take-le}
 use Rattle.std.proofs.lemmas.List.{length-append, length-drop, take-append-le, drop-append-le}
 use Rattle.gpu_ring.specs.Line.{IsFull, IsFed}
-use Rattle.gpu_ring.specs.Calls.{empty_ring, Allocates, Places, EndsFrame, Retires, IsInFlight, frames_up_to, bytes_up_to, without_frames}
-use Rattle.gpu_ring.specs.RingState.{RingState}
+use Rattle.gpu_ring.specs.Calls.{empty_ring, no_pieces, with_piece, Allocates, Places, EndsFrame, Retires, IsInFlight, frames_up_to, bytes_up_to, without_frames}
+use Rattle.gpu_ring.specs.RingState.{RingState, bytes_of}
 use Rattle.gpu_ring.specs.Runs.{Call, Request, End, Retire, cost, Asked, after_request, after_end, after_retire, ServesAll}
 use Rattle.gpu_ring.specs.declared.ring.Frame.{Frame}
+use Rattle.gpu_ring.specs.declared.ring.FrameStatistics.{FrameStatistics}
 use Rattle.gpu_ring.proofs.Places.{lap, first_lap}
 use Rattle.gpu_ring.proofs.Runs.{fed_serves, fed_on}
 
@@ -22,15 +23,18 @@ is_zero : (x : ℕ) → (x == 0) ≡ true → x ≡ 0
 is_zero x none = grind (arith, nat_tests)
 
 -- the bytes of the first j of these frames
-abbrev bytes : ℕ → List ℕ → ℕ
-bytes j frames = sum (take j frames)
+abbrev bytes : ℕ → List FrameStatistics → ℕ
+bytes j frames = bytes_of (take j frames)
+
+abbrev held : FrameStatistics → ℕ
+held f = f.bytes
 
 module _ (most most_a_frame most_frames : ℕ) (some : 0 < most) where
   -- what was asked for bounds the taken bytes, from each frame's start on
   pub record IsKept (s : Asked) : Type 0 where
     pub rolled : s.ring.tail < s.ring.size
     pub within : s.ring.taken ≤ s.ring.size
-    pub whole : sum s.ring.frames + s.ring.current ≡ s.ring.taken
+    pub whole : bytes_of s.ring.frames + s.ring.current.bytes ≡ s.ring.taken
     pub as_many : length s.frames ≡ length s.ring.frames
     pub few : length s.frames ≤ most_frames
     pub each : All (λ n. n ≤ most_a_frame) s.frames
@@ -42,7 +46,7 @@ module _ (most most_a_frame most_frames : ℕ) (some : 0 < most) where
   -- the bytes of some frames are among the taken ones
   some_bytes : (s : Asked) → IsKept s → (j : ℕ) → bytes j s.ring.frames ≤ s.ring.taken
   some_bytes s k j =
-      let part = sum_by-take-le (λ (x : ℕ). x) s.ring.frames j in
+      let part = sum_by-take-le held s.ring.frames j in
       let all = k.whole in
       omega (arith, part, all)
 
@@ -87,7 +91,7 @@ module _ (most most_a_frame most_frames : ℕ) (some : 0 < most) where
   module _ (s : Asked) (k : IsKept s) (size alignment offset : ℕ) (new : RingState) (p : Places s.ring size alignment offset new) (sized : 0 < size) (aligned : 0 < alignment) (one : cost size alignment ≤ most)
       (frame : s.current + cost size alignment ≤ most_a_frame) where
     abbrev placed : RingState
-    placed = record s.ring { taken = p.place + size - s.ring.tail; current = s.ring.current + (p.place + size - (s.ring.tail + s.ring.taken)) }
+    placed = record s.ring { taken = p.place + size - s.ring.tail; current = with_piece s.ring.current (p.place + size - (s.ring.tail + s.ring.taken)) }
 
     kept_placed : IsKept (after_request s size alignment placed)
     kept_placed =
@@ -123,7 +127,7 @@ module _ (most most_a_frame most_frames : ℕ) (some : 0 < most) where
 
   module _ (s : Asked) (k : IsKept s) (room : length s.frames < most_frames) where
     abbrev ended : RingState
-    ended = record s.ring { frames = s.ring.frames ++ (s.ring.current ∷ []); current = 0 }
+    ended = record s.ring { frames = s.ring.frames ++ (s.ring.current ∷ []); current = no_pieces }
 
     fed_after : (j : ℕ) → j ≤ length (s.ring.frames ++ (s.ring.current ∷ [])) → IsFed s.ring.size most (s.ring.tail + bytes j (s.ring.frames ++ (s.ring.current ∷ [])))
         (s.ring.taken - bytes j (s.ring.frames ++ (s.ring.current ∷ []))) (sum (drop j (s.frames ++ (s.current ∷ []))) + 0)
@@ -132,7 +136,7 @@ module _ (most most_a_frame most_frames : ℕ) (some : 0 < most) where
           let before : j ≤ length s.ring.frames = omega arith in
           let many = k.as_many in
           let fed = k.fed j before in
-          let takes : bytes j (s.ring.frames ++ (s.ring.current ∷ [])) ≡ bytes j s.ring.frames = ap (λ xs. sum xs) (take-append-le j s.ring.frames (s.ring.current ∷ []) before) in
+          let takes : bytes j (s.ring.frames ++ (s.ring.current ∷ [])) ≡ bytes j s.ring.frames = ap (λ xs. bytes_of xs) (take-append-le j s.ring.frames (s.ring.current ∷ []) before) in
           let drops : sum (drop j (s.frames ++ (s.current ∷ []))) ≡ sum (drop j s.frames) + sum (s.current ∷ []) =
           ap (λ xs. sum xs) (drop-append-le j s.frames (s.current ∷ []) (omega arith)) ∙ sum_by-append (λ (x : ℕ). x) (drop j s.frames) (s.current ∷ []) in
           let last : sum (s.current ∷ []) ≡ s.current = omega arith in
@@ -144,23 +148,23 @@ module _ (most most_a_frame most_frames : ℕ) (some : 0 < most) where
       | inr past ↦
           let all : length (s.ring.frames ++ (s.ring.current ∷ [])) ≡ length s.ring.frames + 1 = length-append s.ring.frames (s.ring.current ∷ []) in
           let j_is : j ≡ length s.ring.frames + 1 = omega arith in
-          let parts = sum_by-take-drop (λ (x : ℕ). x) (s.ring.frames ++ (s.ring.current ∷ [])) j in
+          let parts = sum_by-take-drop held (s.ring.frames ++ (s.ring.current ∷ [])) j in
           let rest : length (drop j (s.ring.frames ++ (s.ring.current ∷ []))) ≡ 0 = length-drop j (s.ring.frames ++ (s.ring.current ∷ [])) ∙ omega (arith, all, j_is) in
           let nothing = sum_none (drop j (s.ring.frames ++ (s.ring.current ∷ []))) rest in
-          let joined = sum_by-append (λ (x : ℕ). x) s.ring.frames (s.ring.current ∷ []) in
-          let last : sum (s.ring.current ∷ []) ≡ s.ring.current = omega arith in
+          let joined = sum_by-append held s.ring.frames (s.ring.current ∷ []) in
+          let last : bytes_of (s.ring.current ∷ []) ≡ s.ring.current.bytes = omega arith in
           let whole = k.whole in
           record { over = omega (arith, parts, nothing, joined, last, whole, some); before = λ up. omega (arith, parts, nothing, joined, last, whole); after = λ up. omega (arith, parts, nothing, joined, last, whole) }
     ]
       where
-        sum_none : (xs : List ℕ) → length xs ≡ 0 → sum xs ≡ 0
+        sum_none : (xs : List FrameStatistics) → length xs ≡ 0 → bytes_of xs ≡ 0
         sum_none [] none = refl
         sum_none (x ∷ xs) none = absurd (omega (arith, none))
 
     kept_ended : IsKept (record { ring = ended; frames = s.frames ++ (s.current ∷ []); current = 0 })
     kept_ended =
-        let joined = sum_by-append (λ (x : ℕ). x) s.ring.frames (s.ring.current ∷ []) in
-        let last : sum (s.ring.current ∷ []) ≡ s.ring.current = omega arith in
+        let joined = sum_by-append held s.ring.frames (s.ring.current ∷ []) in
+        let last : bytes_of (s.ring.current ∷ []) ≡ s.ring.current.bytes = omega arith in
         let whole = k.whole in
         let many = k.as_many in
         let a = length-append s.frames (s.current ∷ []) in
@@ -178,7 +182,7 @@ module _ (most most_a_frame most_frames : ℕ) (some : 0 < most) where
 
     pub kept_end : (answer : Option Frame) (new : RingState) → EndsFrame s.ring answer new → IsKept (after_end s answer new)
     kept_end None new e = subst (λ r. IsKept (record { ring = r; frames = s.frames; current = s.current })) (sym e.1) k
-    kept_end (Some frame) new e = subst (λ r. IsKept (record { ring = r; frames = s.frames ++ (s.current ∷ []); current = 0 })) (sym e.1) kept_ended
+    kept_end (Some frame) new e = subst (λ r. IsKept (record { ring = r; frames = s.frames ++ (s.current ∷ []); current = 0 })) (sym e.2) kept_ended
 
   -- ---- a retired frame
 
@@ -188,15 +192,15 @@ module _ (most most_a_frame most_frames : ℕ) (some : 0 < most) where
     rolled_after false = let low = k.rolled in mod-lt (s.ring.tail + bytes_up_to s.ring frame) (omega (arith, low))
 
     -- the frames behind it, counted from the first one
-    behind : (j : ℕ) (xs : List ℕ) → bytes (frames_up_to s.ring frame + j) xs ≡ bytes (frames_up_to s.ring frame) xs + bytes j (drop (frames_up_to s.ring frame) xs)
-    behind j xs = ap (λ ys. sum ys) (take-add (frames_up_to s.ring frame) j xs) ∙ sum_by-append (λ (x : ℕ). x) (take (frames_up_to s.ring frame) xs) (take j (drop (frames_up_to s.ring frame) xs))
+    behind : {X : Type 0} (f : X → ℕ) (j : ℕ) (xs : List X) → sum_by f (take (frames_up_to s.ring frame + j) xs) ≡ sum_by f (take (frames_up_to s.ring frame) xs) + sum_by f (take j (drop (frames_up_to s.ring frame) xs))
+    behind f j xs = ap (λ ys. sum_by f ys) (take-add (frames_up_to s.ring frame) j xs) ∙ sum_by-append f (take (frames_up_to s.ring frame) xs) (take j (drop (frames_up_to s.ring frame) xs))
 
     rest_behind : (j : ℕ) (xs : List ℕ) → sum (drop (frames_up_to s.ring frame + j) xs) ≡ sum (drop j (drop (frames_up_to s.ring frame) xs))
     rest_behind j xs =
         let a = sum_by-take-drop (λ (x : ℕ). x) xs (frames_up_to s.ring frame) in
         let b = sum_by-take-drop (λ (x : ℕ). x) (drop (frames_up_to s.ring frame) xs) j in
         let c = sum_by-take-drop (λ (x : ℕ). x) xs (frames_up_to s.ring frame + j) in
-        let d = behind j xs in
+        let d = behind (λ (x : ℕ). x) j xs in
         omega (arith, a, b, c, d)
 
     fed_moved : (b : Bool) → (s.ring.taken - bytes_up_to s.ring frame == 0) ≡ b → (j : ℕ) → j ≤ length (drop (frames_up_to s.ring frame) s.ring.frames)
@@ -204,7 +208,7 @@ module _ (most most_a_frame most_frames : ℕ) (some : 0 < most) where
         (s.ring.taken - bytes_up_to s.ring frame - bytes j (drop (frames_up_to s.ring frame) s.ring.frames)) (sum (drop j (drop (frames_up_to s.ring frame) s.frames)) + s.current)
     fed_moved true none j le =
         let part = some_bytes s k (frames_up_to s.ring frame + j) in
-        let split = behind j s.ring.frames in
+        let split = behind held j s.ring.frames in
         let empty = is_zero (s.ring.taken - bytes_up_to s.ring frame) none in
         record { over = omega (arith, part, split, empty, some); before = λ up. omega (arith, part, split, empty); after = λ up. omega (arith, part, split, empty) }
     fed_moved false more j le =
@@ -212,7 +216,7 @@ module _ (most most_a_frame most_frames : ℕ) (some : 0 < most) where
         let first = live.0 in
         let last = live.1 in
         let fed = k.fed (frames_up_to s.ring frame + j) (omega arith) in
-        let split = behind j s.ring.frames in
+        let split = behind held j s.ring.frames in
         let rest = rest_behind j s.frames in
         let part = some_bytes s k (frames_up_to s.ring frame) in
         let within = k.within in
@@ -234,7 +238,7 @@ module _ (most most_a_frame most_frames : ℕ) (some : 0 < most) where
 
     kept_retired : IsKept (record { ring = without_frames s.ring frame; frames = drop (frames_up_to s.ring frame) s.frames; current = s.current })
     kept_retired =
-        let parts = sum_by-take-drop (λ (x : ℕ). x) s.ring.frames (frames_up_to s.ring frame) in
+        let parts = sum_by-take-drop held s.ring.frames (frames_up_to s.ring frame) in
         let whole = k.whole in
         let within = k.within in
         let many = k.as_many in
@@ -274,7 +278,7 @@ module _ (most most_a_frame most_frames : ℕ) (some : 0 < most) where
     where
       same_end : (answer : Option Frame) (new : RingState) → EndsFrame s.ring answer new → (after_end s answer new).ring.size ≡ ring
       same_end None new e = ap (λ (r : RingState). r.size) e.1 ∙ same
-      same_end (Some f) new e = ap (λ (r : RingState). r.size) e.1 ∙ same
+      same_end (Some f) new e = ap (λ (r : RingState). r.size) e.2 ∙ same
   serves ring large (Retire f ∷ calls) s same k = λ answer new r. serves ring large calls (after_retire s f answer new) (same_retire answer new r) (kept_retire s k f answer new r)
     where
       same_retire : (answer : Bool) (new : RingState) → Retires s.ring f answer new → (after_retire s f answer new).ring.size ≡ ring

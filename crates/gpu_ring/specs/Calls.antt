@@ -1,21 +1,30 @@
 -- What a ring's calls return and leave.
-use Rattle.std.specs.Prelude.{◌≡◌, ◌⊎◌, ℕ, ◌+◌, ◌-◌, ◌%◌, ◌==◌, ◌^◌, ◌<◌, ◌≤◌, if◌then◌else◌, [], ◌∷◌, ◌++◌, length, take, drop, sum, Bool, true, false, Option, Some, None}
+use Rattle.std.specs.Prelude.{◌≡◌, ◌⊎◌, ℕ, ◌+◌, ◌-◌, ◌%◌, ◌==◌, ◌^◌, ◌<◌, ◌≤◌, if◌then◌else◌, [], ◌∷◌, ◌++◌, length, take, drop, Bool, true, false, Option, Some, None}
 use Rattle.gpu_ring.specs.Line.{IsServed, IsFull}
-use Rattle.gpu_ring.specs.RingState.{RingState}
+use Rattle.gpu_ring.specs.RingState.{RingState, bytes_of}
 use Rattle.gpu_ring.specs.declared.ring.Frame.{Frame}
+use Rattle.gpu_ring.specs.declared.ring.FrameStatistics.{FrameStatistics}
+
+-- a frame without pieces
+abbrev pub no_pieces : FrameStatistics
+no_pieces = record { pieces = 0; bytes = 0 }
 
 -- a ring in which nothing is taken and no frame is in flight
 abbrev pub empty_ring : (size room : ℕ) → RingState
-empty_ring size room = record { size = size; tail = 0; taken = 0; first = 0; frames = []; current = 0; room = room }
+empty_ring size room = record { size = size; tail = 0; taken = 0; first = 0; frames = []; current = no_pieces; room = room }
 
 -- ---- allocate
+
+-- a frame with a piece more, that takes so many bytes
+abbrev pub with_piece : FrameStatistics → (bytes : ℕ) → FrameStatistics
+with_piece frame bytes = record { pieces = frame.pieces + 1; bytes = frame.bytes + bytes }
 
 -- the piece begins at the first place that serves, and the open frame takes the bytes up to its end
 pub record Places (old : RingState) (size alignment offset : ℕ) (new : RingState) : Type 0 where
   pub place : ℕ
   pub served : IsServed old.size old.tail old.taken alignment size place
   pub offset_is : offset ≡ place % old.size
-  pub state : new ≡ record old { taken = place + size - old.tail; current = old.current + (place + size - (old.tail + old.taken)) }
+  pub state : new ≡ record old { taken = place + size - old.tail; current = with_piece old.current (place + size - (old.tail + old.taken)) }
 
 -- refused exactly where the ring is full for it, and then nothing changes
 abbrev pub Allocates : RingState → (size alignment : ℕ) → Option ℕ → RingState → Type 0
@@ -24,10 +33,14 @@ Allocates old size alignment (Some offset) new = Places old size alignment offse
 
 -- ---- end_frame
 
--- the open frame is in flight, under the next number; refused where there is no room for one more, or no number
+-- there is no room for a frame more in flight, or no number
+abbrev pub HasNoFrame : RingState → Type 0
+HasNoFrame r = (r.room ≤ length r.frames) ⊎ (2 ^ 64 ≤ r.first + length r.frames + 1)
+
+-- the open frame is in flight, under the next number; refused exactly where there is none for it, and then nothing changes
 abbrev pub EndsFrame : RingState → Option Frame → RingState → Type 0
-EndsFrame old None new = ((old.room ≤ length old.frames) ⊎ (2 ^ 64 ≤ old.first + length old.frames + 1)) × (new ≡ old)
-EndsFrame old (Some frame) new = (frame.number ≡ old.first + length old.frames) × (new ≡ record old { frames = old.frames ++ (old.current ∷ []); current = 0 })
+EndsFrame old None new = HasNoFrame old × (new ≡ old)
+EndsFrame old (Some frame) new = (HasNoFrame old → ⊥) × (frame.number ≡ old.first + length old.frames) × (new ≡ record old { frames = old.frames ++ (old.current ∷ []); current = no_pieces })
 
 -- ---- retire
 
@@ -40,7 +53,7 @@ abbrev pub frames_up_to : RingState → Frame → ℕ
 frames_up_to r frame = frame.number + 1 - r.first
 
 abbrev pub bytes_up_to : RingState → Frame → ℕ
-bytes_up_to r frame = sum (take (frames_up_to r frame) r.frames)
+bytes_up_to r frame = bytes_of (take (frames_up_to r frame) r.frames)
 
 -- where the taken bytes begin once so many of them are freed
 abbrev pub tail_after : RingState → (freed : ℕ) → ℕ

@@ -6,4 +6,4 @@ pub mod laws;
 mod place;
 mod ring;
 
-pub use ring::{Frame, Ring, RingStatistics};
+pub use ring::{Frame, FrameStatistics, Ring, RingStatistics, Stretch};

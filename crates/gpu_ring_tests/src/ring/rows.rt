@@ -1,6 +1,6 @@
 //! Worked rows: where pieces go in a ring of 100 bytes, and which are freed with a frame.
 
-use gpu_ring::{Frame, Ring, RingStatistics};
+use gpu_ring::{Frame, FrameStatistics, Ring, Stretch};
 use std::process::Abort;
 use std::test::Fail;
 
@@ -13,12 +13,8 @@ fn check(rt: &impl Abort, steps: &[bool]) {
 
 /// Whether a ring of 100 bytes holds this.
 fn holds(ring: &Ring, taken: u64, frames: usize) -> bool {
-    ring.statistics()
-        == RingStatistics {
-            size: 100,
-            taken,
-            frames,
-        }
+    let told = ring.statistics();
+    told.size == 100 && told.taken == taken && told.frames == frames
 }
 
 #[test]
@@ -82,6 +78,36 @@ fn frames_are_freed_with_the_older_ones(rt: HostRuntime) -> Result<(), Fail> {
     Ok(())
 }
 
+/// Whether a frame is told with so many pieces and bytes.
+fn tells(told: Option<FrameStatistics>, pieces: u64, bytes: u64) -> bool {
+    told == Some(FrameStatistics { pieces, bytes })
+}
+
+#[test]
+fn each_frame_tells_its_pieces(rt: HostRuntime) -> Result<(), Fail> {
+    let Ok(mut ring) = Ring::new(rt.alloc(), 100, 2) else {
+        return Err(Fail::new("there is no memory for a ring"));
+    };
+    let steps = [
+        ring.frame_statistics(Frame { number: 0 }).is_none(),
+        ring.allocate(30, 1) == Some(0),
+        ring.allocate(30, 16) == Some(32),
+        // 30 bytes, 2 of padding, 30
+        tells(Some(ring.statistics().current), 2, 62),
+        ring.end_frame() == Some(Frame { number: 0 }),
+        ring.end_frame() == Some(Frame { number: 1 }),
+        tells(ring.frame_statistics(Frame { number: 0 }), 2, 62),
+        tells(ring.frame_statistics(Frame { number: 1 }), 0, 0),
+        ring.frame_statistics(Frame { number: 2 }).is_none(),
+        ring.statistics().oldest == 0,
+        ring.retire(Frame { number: 0 }),
+        ring.statistics().oldest == 1,
+        ring.frame_statistics(Frame { number: 0 }).is_none(),
+    ];
+    check(&rt, &steps);
+    Ok(())
+}
+
 #[test]
 fn bytes_skipped_at_the_end_go_with_their_frame(rt: HostRuntime) -> Result<(), Fail> {
     let Ok(mut ring) = Ring::new(rt.alloc(), 100, 2) else {
@@ -96,6 +122,12 @@ fn bytes_skipped_at_the_end_go_with_their_frame(rt: HostRuntime) -> Result<(), F
         // the 20 bytes at the end are too few: they are taken with the piece
         ring.allocate(30, 1) == Some(0),
         holds(&ring, 60, 1),
+        ring.current_stretch()
+            == Stretch {
+                offset: 80,
+                size: 20,
+                rest: 30,
+            },
         ring.end_frame() == Some(Frame { number: 2 }),
         ring.retire(Frame { number: 1 }),
         holds(&ring, 50, 1),

@@ -1,6 +1,6 @@
 use Rattle.std.proofs.Common.{◌≡◌, ◌+◌, ◌-◌, ◌%◌, ◌<◌, ℕ, arith, sym, subst}
 use Rattle.std.specs.VecDeque.{deque_capacity}
-use Rattle.gpu_ring.specs.Calls.{Places}
+use Rattle.gpu_ring.specs.Calls.{Places, with_piece}
 use Rattle.gpu_ring.specs.Line.{IsTaken, Apart}
 use Rattle.gpu_ring.specs.RingState.{RingState}
 use Rattle.gpu_ring.proofs.Places.{offset_low, offset_high}
@@ -35,7 +35,7 @@ returns-clause-allocates c =
       taken = i.taken + more;
       first = i.first;
       frames = i.frames.items;
-      current = i.current + more;
+      current = with_piece i.current more;
       room = deque_capacity i.frames;
     } in
     subst (λ (s : RingState). Places s a.size a.alignment c.if-place-self.result new) c.self.view_is
@@ -49,7 +49,7 @@ returns-clause-allocates c =
         taken = taken k;
         first = i.first;
         frames = i.frames.items;
-        current = i.current + more;
+        current = with_piece i.current more;
         room = deque_capacity i.frames;
       };
     })
