@@ -141,11 +141,11 @@ pub fn heaps_of<D: VulkanDevice>(alloc: Global, device: &D) -> Result<Vec<Memory
 }
 
 /// A memory type without blocks for each of the device's.
-pub fn empty_types(
+pub fn empty_types<H: Copy + Eq>(
     alloc: Global,
     memory_types: &[MemoryTypeInfo],
     granularity: u64,
-) -> Result<Vec<MemoryType<DeviceMemory>>, AllocError>
+) -> Result<Vec<MemoryType<H>>, AllocError>
     requires { IsTrue (is_power_of_two granularity) }
     ensures kinds { IfOk result (λ v. kinds v.items
         ≡ map (λ info. (is_host_visible info, granularity)) memory_types.now) }
@@ -216,14 +216,14 @@ pub fn is_mapped(info: &MemoryTypeInfo) -> bool
         .contains(MemoryPropertyFlags::HOST_VISIBLE)
 }
 
-/// The setup over what a device told, and its memory types.
-pub fn told_parts(
+/// The setup over what a device told, and its memory types, whose blocks have handles of the caller's sort.
+pub fn told_parts<H: Copy + Eq>(
     alloc: Global,
     memory_types: Vec<MemoryTypeInfo>,
     heaps: Vec<MemoryHeap>,
     granularity: u64,
     settings: Settings,
-) -> Result<(Setup, MemoryTypes<DeviceMemory>), AllocError>
+) -> Result<(Setup, MemoryTypes<H>), AllocError>
     requires { IsValid (properties_told memory_types.items heaps.items granularity) }
     ensures setup { IfOk result (λ parts. parts.0 ≡ record {
       properties = properties_told memory_types.items heaps.items granularity;

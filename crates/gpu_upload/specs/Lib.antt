@@ -1,0 +1,2 @@
+pub mod Upload
+pub mod UploadState
