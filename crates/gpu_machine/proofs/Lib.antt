@@ -1,10 +1,4 @@
-pub mod Preparing
-pub mod Alike
-pub mod Calling
-pub mod Running
-pub mod Freeing
-pub mod Renaming
-pub mod Giving
-pub mod Staying
+pub mod VulkanBeginning
+pub mod VulkanRunning
 pub mod MetalBeginning
 pub mod D3D12Beginning

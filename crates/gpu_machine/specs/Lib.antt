@@ -1,9 +1,9 @@
-pub mod Description
-pub mod State
-pub mod Begin
-pub mod Calls
-pub mod Run
-pub mod Live
+pub mod VulkanDescription
+pub mod VulkanState
+pub mod VulkanBegin
+pub mod VulkanCalls
+pub mod VulkanLive
+pub mod VulkanRun
 pub mod MetalState
 pub mod MetalBegin
 pub mod MetalCalls

@@ -1,0 +1,216 @@
+-- Requests at Vulkan's machine, as its code comes to them, and its other calls as the allocator's.
+use Rattle.std.proofs.Common.{◌≡◌, ◌∙◌, refl, sym, ap, subst, inl, inr, ⊎_elim, ℕ, ◌≤◌, Bool, true, false, List, [], ◌∷◌, zero, suc, length, Option, Some, None, Ok, Err, Result, arith, IsTrue}
+use Rattle.std.specs.Borrow.{Bor}
+use Rattle.std.specs.List.{slice_get}
+use Rattle.std.specs.Option.{option_map, unwrap_or}
+use Rattle.std.specs.Prelude.{◌↔◌, IsSome}
+use Rattle.std.proofs.lemmas.Bool.{cases_lt}
+use Rattle.std.proofs.lemmas.List.{length-map, get_or_past}
+use Rattle.gpu_values.specs.Refusal.{Refusal, refusal_of}
+use Rattle.gpu_values.specs.declared.error.AllocationError.{AllocationError}
+use Rattle.gpu_core.specs.Blocks.{Slots, slots_at}
+use Rattle.gpu_core.specs.TypeRelease.{IsFreeRefusal}
+use Rattle.gpu_block.specs.Block.{Block}
+use Rattle.gpu_core.specs.Blocks.{BlocksWellFormed}
+use Rattle.gpu_core.specs.Slots.{AreSound}
+use Rattle.gpu_core.specs.TypeState.{Slot, TypeState, slot_at, block_number}
+use Rattle.gpu_core.specs.Types.{Types, slots_of}
+use Rattle.gpu_core.specs.TypeReport.{block_in}
+use Rattle.gpu_core.proofs.Options.{none_some, some_same}
+use Rattle.gpu_pool.specs.State.{IsSoundAt}
+use Rattle.gpu_vulkan.proofs.Leaving.{kind_told}
+use Rattle.gpu_core.specs.TypeTake.{asked}
+use Rattle.gpu_core.specs.Rename.{IsNotNamed}
+use Rattle.gpu_core.specs.declared.piece.Piece.{Piece}
+use Rattle.gpu_core.specs.declared.piece.Request as type_requests
+use Rattle.gpu_device.specs.declared.vulkan.device.VulkanDevice.{Ghosts}
+use Rattle.gpu_device.specs.declared.vulkan.types.DeviceMemory.{DeviceMemory}
+use Rattle.gpu_pool.specs.Allocate.{RequestAt, request_at}
+use Rattle.gpu_pool.specs.Begin as pools
+use Rattle.gpu_pool.specs.Idle.{FreesIn, RenamesIn, RenamesIdle}
+use Rattle.gpu_pool.specs.RequestState.{RequestState}
+use Rattle.gpu_pool.specs.declared.requests.Awaited.{Awaited}
+use Rattle.gpu_vulkan.specs.Describe.{request_of, requests_dedicated}
+use Rattle.gpu_vulkan.specs.Free as allocators
+use Rattle.gpu_vulkan.specs.Free.{GivesBack}
+use Rattle.gpu_vulkan.specs.Live.{is_same_memory, piece_of}
+use Rattle.gpu_vulkan.specs.Rename as names
+use Rattle.gpu_vulkan.specs.Rename.{IsNamed}
+use Rattle.gpu_vulkan.specs.Setup.{Setup}
+use Rattle.gpu_vulkan.specs.Types.{heap_size, is_host_visible}
+use Rattle.gpu_vulkan.specs.declared.allocation.Allocation.{Allocation}
+use Rattle.gpu_vulkan.specs.declared.describe.AllocationCreateDesc.{AllocationCreateDesc}
+use Rattle.gpu_vulkan.specs.Allocate.{next_type}
+use Rattle.gpu_machine.specs.VulkanBegin.{request_in, begun_in, Tells, asking_after, IsTooLarge, IsWithinHeap, Tries, Follows, Declines, DeclinesIn, closed, next_for}
+use Rattle.gpu_machine.specs.VulkanDescription.{Description, description_of}
+use Rattle.gpu_machine.specs.VulkanCalls.{Frees, memory_in}
+use Rattle.gpu_machine.specs.VulkanState.{State, IsOver, KeepsRequest}
+use Rattle.gpu_machine.specs.declared.vulkan.answer.MemoryBack.{MemoryBack}
+use Rattle.gpu_machine.specs.declared.vulkan.answer.Progress.{Progress}
+use Rattle.gpu_machine.specs.declared.vulkan.asking.Asking.{Asking}
+
+-- ---- an attempt
+
+-- what a memory type is asked, as the code asks it
+pub asked_as : (t : ℕ) (r : type_requests.Request) (d : AllocationCreateDesc) → asked r ≡ request_of d → r.dedicated ≡ requests_dedicated d.allocation_scheme → request_at t r tt ≡ request_in t d
+asked_as t r d asks own i = record { memory_type = t; requested_dedicated = own i; request = asks i; extra = tt }
+
+-- there are as many memory types as the device has
+pub as_many : {H : Type 0} (setup : Setup) (requests : RequestState H) → IsOver setup requests → length requests.kinds ≡ length setup.properties.types
+as_many setup requests over =
+    ap (λ (ks : List (Bool × ℕ)). length ks) over.kinds ∙ length-map {B = Bool × ℕ} setup.properties.types (λ info. (is_host_visible info, setup.properties.granularity))
+
+module _ {H : Type 0} (old new : State H) (t : ℕ) (r : type_requests.Request) (d : AllocationCreateDesc) (asks : asked r ≡ request_of d) (own : r.dedicated ≡ requests_dedicated d.allocation_scheme)
+    (below : d.requirements.size ≤ heap_size old.setup.properties t) (is_second : Bool) where
+  pub tried : (result : Result (Progress H) AllocationError) → pools.Begins (request_at t r tt) old.requests (begun_in result) new.requests → Tells old.setup t result
+      → new ≡ record old { requests = new.requests; asking = asking_after old.asking d is_second result } → Tries old t d is_second result new
+  tried result begins tells state =
+      inr (record {
+        below = below;
+        begins = subst (λ (q : RequestAt (Unit {0})). pools.Begins q old.requests (begun_in result) new.requests) (asked_as t r d asks own) begins;
+        tells = tells;
+        state = state;
+      })
+
+-- ---- frees and names as the allocator's
+
+module _ {D : Type 0} (g : Ghosts D) (old new : State DeviceMemory) (a : Allocation) (p : Piece DeviceMemory) (closed : old.requests.awaited ≡ None) (is : piece_of a ≡ Some p) where
+  pub freed : (back : Option (MemoryBack DeviceMemory)) (device after : D) → Frees is_same_memory old a.memory_type_index p (Ok back) new → GivesBack g device (memory_in back) after
+      → allocators.Frees g a old.requests.slots device (Ok tt) new.requests.slots after
+  freed back device after h gives =
+      let f : FreesIn is_same_memory None old.requests a.memory_type_index p (Ok (memory_in back)) new.requests =
+      subst (λ (o : Option Awaited). FreesIn is_same_memory o old.requests a.memory_type_index p (Ok (memory_in back)) new.requests) closed h.frees in
+      subst (λ (o : Option (Piece DeviceMemory)). allocators.FreesPiece g a o old.requests.slots device (Ok tt) new.requests.slots after) (sym is) (
+        f.0,
+        record { went = memory_in back; left = f.1.left; releases = f.1.releases; slots = f.1.slots; gives_back = gives },
+      )
+
+  pub not_freed : (e f : AllocationError) (device : D) → Frees is_same_memory old a.memory_type_index p (Err e) new → refusal_of f ≡ refusal_of e
+      → allocators.Frees g a old.requests.slots device (Err (f, a)) new.requests.slots device
+  not_freed e f device h same =
+      let n : FreesIn is_same_memory None old.requests a.memory_type_index p (Err e) new.requests =
+      subst (λ (o : Option Awaited). FreesIn is_same_memory o old.requests a.memory_type_index p (Err e) new.requests) closed h.frees in
+      subst (λ (o : Option (Piece DeviceMemory)). allocators.FreesPiece g a o old.requests.slots device (Err (f, a)) new.requests.slots device) (sym is) (
+        n.0,
+        subst (λ (r : Refusal). IsFreeRefusal is_same_memory p (slot_at (slots_at old.requests.slots a.memory_type_index) p.slot) r) (sym same) n.1,
+        refl,
+        ap (λ (s : RequestState DeviceMemory). s.slots) n.2,
+        refl,
+      )
+
+module _ (old new : RequestState DeviceMemory) (a : Allocation) (p : Piece DeviceMemory) (name : List ℕ) (closed : old.awaited ≡ None) (is : piece_of a ≡ Some p) where
+  pub renamed : (b : Allocation) → RenamesIdle is_same_memory old a.memory_type_index p name (Ok tt) new → IsNamed a name b → names.Renames a name old.slots (Ok tt) b new.slots
+  renamed b h named =
+      let r : RenamesIn is_same_memory None old a.memory_type_index p name (Ok tt) new = subst (λ (o : Option Awaited). RenamesIn is_same_memory o old a.memory_type_index p name (Ok tt) new) closed h in
+      subst (λ (o : Option (Piece DeviceMemory)). names.RenamesBy a o name old.slots (Ok tt) b new.slots) (sym is) (named, r.0)
+
+  pub not_renamed : (e f : AllocationError) → RenamesIdle is_same_memory old a.memory_type_index p name (Err e) new → refusal_of f ≡ refusal_of e → names.Renames a name old.slots (Err f) a new.slots
+  not_renamed e f h same =
+      let r : RenamesIn is_same_memory None old a.memory_type_index p name (Err e) new = subst (λ (o : Option Awaited). RenamesIn is_same_memory o old a.memory_type_index p name (Err e) new) closed h in
+      subst (λ (o : Option (Piece DeviceMemory)). names.RenamesBy a o name old.slots (Err f) a new.slots) (sym is) (
+        subst (λ (why : Refusal). IsNotNamed is_same_memory (slots_at old.slots a.memory_type_index) p why) (sym same) r.0,
+        refl,
+        ap (λ (s : RequestState DeviceMemory). s.slots) r.1,
+      )
+
+-- ---- whether a question is open
+
+closed_by : (o : Option Awaited) → (IsSome o → ⊥) → o ≡ None
+closed_by None h = refl
+closed_by (Some a) h = absurd (h refl)
+
+-- no question is open where `awaits_answer` says so
+pub is_closed : (o : Option Awaited) (b : Bool) → b ≡ false → (IsTrue b ↔ IsSome o) → o ≡ None
+is_closed o b is says = closed_by o (λ h. absurd (grind (arith, subst IsTrue is (says.1 h))))
+
+-- ---- looks
+
+-- handle and pieces of a slot make its block
+pub slot_told : {H : Type 0} (s : Option (Slot H)) (h : H) (b : Block) → block_number s ≡ Some h → block_in s ≡ Some b → s ≡ Some (record { handle = h; block = b })
+slot_told None h b named held = absurd (none_some h named)
+slot_told (Some s) h b named held = λ i. Some (record { handle = some_same s.handle h named i; block = some_same s.block b held i })
+
+-- the blocks of each memory type are sound with the device's pages
+pub well_formed : {H : Type 0} (setup : Setup) (requests : RequestState H) → IsOver setup requests → length requests.slots ≡ length requests.kinds → ((t : ℕ) → IsSoundAt requests.kinds requests.slots t)
+    → BlocksWellFormed setup.properties.granularity requests.slots
+well_formed setup requests over long sound t =
+    let p = setup.properties in
+    ⊎_elim
+    (λ below. subst (λ (k : Bool × ℕ). AreSound k.1 (slots_at requests.slots t)) (kind_told p t below) (subst (λ (ks : List (Bool × ℕ)). IsSoundAt ks requests.slots t) over.kinds (sound t)))
+    (λ past.
+    let many = as_many setup requests over in
+    subst (AreSound p.granularity) (sym (get_or_past requests.slots t [] (omega (arith, past, many, long)))) (λ i. tt))
+    (cases_lt t (length p.types))
+
+-- ---- after a refusal of the driver
+
+kept_awaited : (o : Option Awaited) (asking : Option Asking) (r : Asking) → KeepsRequest o asking → asking ≡ Some r → (a : Awaited) × (o ≡ Some a)
+kept_awaited None None r k is = absurd (none_some r is)
+kept_awaited None (Some s) r k is = absurd k
+kept_awaited (Some a) None r k is = absurd k
+kept_awaited (Some a) (Some s) r k is = (a, refl)
+
+-- the description that says this, its name where that of d lies
+abbrev saying : AllocationCreateDesc → Description → AllocationCreateDesc
+saying d k = record { name = record d.name { now = k.name }; requirements = k.requirements; location = k.location; linear = k.linear; allocation_scheme = k.scheme }
+
+module _ {H : Type 0} (old : State H) (refusal : Refusal) (result : Result (Progress H) AllocationError) (new : State H) where
+  tries_moved : (p q : AllocationCreateDesc) (k : Description) (t : ℕ) → Tries old t (saying p k) true result new → Tries old t (saying q k) true result new
+  tries_moved p q k t h =
+      ⊎_elim (λ (large : IsTooLarge old t (saying p k) result new). inl (record { above = large.above; refused = large.refused }))
+      (λ (within : IsWithinHeap old t (saying p k) true result new). inr (record { below = within.below; begins = within.begins; tells = within.tells; state = within.state }))
+      h
+
+  follows_moved : (p q : AllocationCreateDesc) (k : Description) (next : Option ℕ) → Follows old (saying p k) next refusal result new → Follows old (saying q k) next refusal result new
+  follows_moved p q k None h = h
+  follows_moved p q k (Some t) h = tries_moved p q k t h
+
+  -- a description that says the same leads to the same
+  follows_alike : (d e : AllocationCreateDesc) → description_of d ≡ description_of e → Follows old d (next_type old.setup d refusal) refusal result new → Follows old e (next_type old.setup e refusal) refusal result new
+  follows_alike d e same h =
+      subst (λ (k : Description). Follows old (saying e k) (next_type old.setup (saying e k) refusal) refusal result new) same
+      (follows_moved d e (description_of d) (next_type old.setup d refusal) h)
+
+module _ {H : Type 0} (setup : Setup) (requests : RequestState H) (asking : Option Asking) (kept : KeepsRequest requests.awaited asking) (r : Asking) (is : asking ≡ Some r) (first : r.is_second ≡ false) where
+  abbrev before : State H
+  before = record { setup = setup; requests = requests; asking = asking }
+
+  -- the second attempt counts, where there is one
+  pub goes_on : (left : RequestState H) → pools.Declines requests (Ok tt) left → (lent : AllocationCreateDesc) → description_of lent ≡ r.description → (refusal : Refusal)
+      → (result : Result (Progress H) AllocationError) (new : State H)
+      → Follows (record { setup = setup; requests = left; asking = None }) lent (next_type setup lent refusal) refusal result new
+      → Declines before refusal result new
+  goes_on left over lent says refusal result new follows =
+      let a = kept_awaited requests.awaited asking r kept is in
+      let closes : left ≡ record requests { awaited = None } = subst (λ (o : Option Awaited). pools.DeclinesIn o requests (Ok tt) left) a.1 over in
+      let idle : Follows (closed before) lent (next_type setup lent refusal) refusal result new =
+      subst (λ (q : RequestState H). Follows (record { setup = setup; requests = q; asking = None }) lent (next_type setup lent refusal) refusal result new) closes follows in
+      subst (λ (o : Option Awaited). DeclinesIn o before refusal result new) (sym a.1) (
+        r,
+        record {
+          kept = is;
+          follows = λ d same.
+              subst (λ (b : Bool). Follows (closed before) d (next_for setup b d refusal) refusal result new) (sym first)
+              (follows_alike (closed before) refusal result new lent d (says ∙ sym same) idle);
+        },
+      )
+
+-- ---- a memory type that is lent
+
+module _ {H : Type 0} where
+  slots_got : (types : Types H) (t : ℕ) → slots_at (slots_of types) t ≡ unwrap_or (option_map (λ (k : TypeState H). k.slots) (slice_get types t)) []
+  slots_got [] t = refl
+  slots_got (k ∷ types) zero = refl
+  slots_got (k ∷ types) (suc t) = slots_got types t
+
+  lent_slots : (r : Option (Bor (TypeState H))) → unwrap_or (option_map (λ (k : TypeState H). k.slots) (option_map (λ (b : Bor (TypeState H)). b.now) r)) []
+      ≡ unwrap_or (option_map (λ (b : Bor (TypeState H)). b.now.slots) r) []
+  lent_slots None = refl
+  lent_slots (Some b) = refl
+
+  -- the slots of the memory type that is lent, or none
+  pub slots_lent : (ss : Slots H) (types : Types H) (t : ℕ) (r : Option (Bor (TypeState H))) → slots_of types ≡ ss
+      → option_map (λ (b : Bor (TypeState H)). b.now) r ≡ slice_get types t → slots_at ss t ≡ unwrap_or (option_map (λ (b : Bor (TypeState H)). b.now.slots) r) []
+  slots_lent ss types t r same lent =
+      ap (λ (all : Slots H). slots_at all t) (sym same) ∙ slots_got types t
+      ∙ ap (λ (o : Option (TypeState H)). unwrap_or (option_map (λ (k : TypeState H). k.slots) o) []) (sym lent) ∙ lent_slots r

@@ -1,5 +1,0 @@
-use Rattle.std.proofs.Common.{rules}
-use Rattle.gpu_machine.proofs.machine.Machine.refused.Goals as goal
-
-pub returns-clause-declines : goal.returns-clause-declines
-returns-clause-declines c = search rules

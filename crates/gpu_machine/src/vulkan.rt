@@ -1,0 +1,12 @@
+//! The Vulkan allocator as a machine that calls nobody: it asks its caller for memory, and is told the answer.
+
+mod answer;
+mod asking;
+mod description;
+pub mod laws;
+mod machine;
+mod refusal;
+mod told;
+
+pub use answer::{Allocated, LiveBlock, MemoryBack, Progress, Question};
+pub use machine::Machine;

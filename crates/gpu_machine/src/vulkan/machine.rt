@@ -1,0 +1,448 @@
+//! Vulkan's machine: blocks of device memory by memory type, and the calls that share them out.
+
+ghost use Rattle.std.specs.Prelude.{◌≡◌, ◌≢◌, ℕ, ◌↔◌, ◌<◌, [], All, None, IfOk, IfErr, OnOk, IsSome, IsTrue, length};
+ghost use Rattle.std.specs.Int.{is_power_of_two};
+ghost use Rattle.std.specs.Option.{unwrap_or, option_map};
+ghost use Rattle.gpu_values.specs.Refusal.{refusal_of, host_out_of_memory};
+ghost use Rattle.gpu_core.specs.declared.piece.Piece.{Piece};
+ghost use Rattle.gpu_core.specs.Apart.{IsInside, AreDistinct, SharesNoByte, KeepsPages};
+ghost use Rattle.gpu_core.specs.Blocks.{slots_at, total_capacity, BlocksWellFormed, EachKeepsOneEmptyAtMost};
+ghost use Rattle.gpu_core.specs.Budgets.{budget_at, budgets};
+ghost use Rattle.gpu_core.specs.Leaks.{all_leaks};
+ghost use Rattle.gpu_core.specs.TypeState.{slot_at};
+ghost use Rattle.gpu_core.specs.Types.{slots_of, kinds};
+ghost use Rattle.gpu_pool.specs.Idle.{RenamesIdle, SetsBudgetIdle};
+ghost use Rattle.gpu_pool.specs.Live.{IsLive, StayLive};
+ghost use Rattle.gpu_pool.specs.Told.{Reports};
+ghost use Rattle.gpu_vulkan.specs.Allocate.{next_type};
+ghost use Rattle.gpu_vulkan.specs.BlockAnswer.{memory_refusal, map_refusal};
+ghost use Rattle.gpu_vulkan.specs.Setup.{properties_told};
+ghost use Rattle.gpu_vulkan.specs.Types.{is_mapped, kinds_of_device};
+ghost use Rattle.gpu_machine.specs.VulkanState.{IsOver, told_fault};
+ghost use Rattle.gpu_machine.specs.VulkanBegin.{Tries, Follows, MakesAttempts, Begins, Grants, Declines};
+ghost use Rattle.gpu_machine.specs.VulkanCalls.{memory_back, live_block, block_at, Frees};
+ghost use Rattle.gpu_machine.specs.VulkanLive.{Gives, GivesAgain, GivesAwaited};
+
+use crate::vulkan::answer::{Allocated, LiveBlock, MemoryBack, Progress, Question};
+use crate::vulkan::asking::Asking;
+use crate::vulkan::refusal::refusal_of_mapping;
+use crate::vulkan::told::fault_of;
+use gpu_core::{AllLeaks, MemoryType, MemoryTypes, Piece};
+use gpu_device::vulkan::{MemoryHeap, MemoryPropertyFlags, MemoryTypeInfo};
+use gpu_pool::{Begun, Requests, answer_awaited, no_answer_awaited};
+use gpu_values::{AllocationError, AllocatorReport, Result};
+use gpu_vulkan::{
+    AllocationCreateDesc, Settings, Setup, best_type, next_type, refusal_of_memory, request_of,
+    told_parts,
+};
+use std::alloc::{AllocError, Global};
+use std::marker::Model;
+
+/// Whether memory of the type at `index` is mapped: it is where the host can see it.
+fn is_mapped(setup: &Setup, index: usize) -> bool
+    ensures { result ≡ is_mapped setup.now.properties index }
+{
+    match setup.memory_types().get(index) {
+        None => false,
+        Some(info) => info
+            .property_flags
+            .contains(MemoryPropertyFlags::HOST_VISIBLE),
+    }
+}
+
+/// The memory of a block of the memory type at `index` that goes, if one does.
+fn memory_back<H: Copy + Eq>(setup: &Setup, index: usize, went: Option<H>) -> Option<MemoryBack<H>>
+    ensures { result ≡ memory_back setup.now index went }
+{
+    match went {
+        None => None,
+        Some(handle) => Some(MemoryBack {
+            handle,
+            mapped: is_mapped(setup, index),
+        }),
+    }
+}
+
+/// The block in a slot of the memory type at `index`, if one is there.
+fn live_block<H: Copy + Eq>(
+    setup: &Setup,
+    index: usize,
+    memory_type: &MemoryType<H>,
+    slot: usize,
+) -> Option<LiveBlock<H>>
+    ensures { result ≡ live_block setup.now index (slot_at memory_type.now.slots slot) }
+{
+    let Some(handle) = memory_type.block(slot) else {
+        return None;
+    };
+    match memory_type.sub_allocator(slot) {
+        None => None,
+        Some(block) => Some(LiveBlock {
+            handle,
+            mapped: is_mapped(setup, index),
+            size: block.size(),
+            shared: block.supports_general_allocations(),
+        }),
+    }
+}
+
+/// The Vulkan allocator turned inside out: it calls no driver, but asks its caller for memory, and is told the answer. A block is known
+/// by a handle of the caller's sort. While a question is open, each call but the answers to it and those that only look is
+/// refused, and changes nothing.
+#[derive(Drop)]
+pub struct Machine<H: Copy + Eq> {
+    alloc: Global,
+    setup: Setup,
+    requests: Requests<H>,
+    asking: Option<Asking>,
+}
+
+impl<H: Copy + Eq> Model for Machine<H> {
+    ghost use Rattle.gpu_machine.specs.VulkanState.{State, IsOver, KeepsRequest};
+
+    ghost Value = { State H };
+
+    ghost view = { λ m. record { setup = m.setup; requests = m.requests; asking = m.asking } };
+
+    ghost invariant = { λ m. IsOver m.setup m.requests
+        × KeepsRequest m.requests.awaited m.asking };
+}
+
+impl<H: Copy + Eq> Machine<H> {
+    /// A machine without blocks and without budgets, over a device that has these memory types and heaps, and this
+    /// `bufferImageGranularity`. The errors: `InvalidAllocatorCreateDesc` for the first that holds of a granularity that isn't
+    /// a power of two, more than 32 memory types, and a memory type in a heap that isn't there; else `HostOutOfMemory`.
+    pub fn new(
+        alloc: Global,
+        memory_types: Vec<MemoryTypeInfo>,
+        heaps: Vec<MemoryHeap>,
+        granularity: u64,
+        settings: Settings,
+    ) -> Result<Self>
+        ensures setup { IfOk result (λ m. m.setup ≡ record {
+          properties = properties_told memory_types.items heaps.items granularity;
+          sizes = settings.sizes;
+          debug = settings.debug;
+          device_address = settings.buffer_device_address;
+        }) }
+        ensures empty { IfOk result (λ m. All (λ slots. slots ≡ []) m.requests.slots) }
+        ensures types { IfOk result (λ m. length m.requests.slots ≡ length memory_types.items) }
+        ensures budgets { IfOk result (λ m. All (λ b. b ≡ None) m.requests.budgets) }
+        ensures bounds { IfOk result (λ m. length m.requests.budgets
+            ≡ length memory_types.items) }
+        ensures closed { IfOk result (λ m. (m.requests.awaited ≡ None) × (m.asking ≡ None)) }
+        ensures valid { OnOk result (told_fault
+            (properties_told memory_types.items heaps.items granularity) ≡ None) }
+        // the first fault that holds, else lack of host memory: nothing else refuses
+        ensures cause { IfErr result (λ e. refusal_of e
+            ≡ unwrap_or (told_fault (properties_told memory_types.items heaps.items granularity))
+            host_out_of_memory) }
+    {
+        if let Some(error) = fault_of(&memory_types, &heaps, granularity) {
+            return Err(error);
+        }
+        let sizes = settings.sizes;
+        match told_parts(alloc, memory_types, heaps, granularity, settings) {
+            Err(AllocError) => Err(AllocationError::HostOutOfMemory),
+            Ok((setup, types)) => Ok(Machine {
+                alloc,
+                setup,
+                requests: Requests::new(sizes, types),
+                asking: None,
+            }),
+        }
+    }
+
+    /// Whether a question is open.
+    pub fn awaits_answer(&self) -> bool
+        ensures { IsTrue result ↔ IsSome self.now.requests.awaited }
+    {
+        self.requests.awaits_answer()
+    }
+
+    /// Begins a request. The errors are those of an allocator's `allocate`, in the same order, but for the driver's own refusals:
+    /// where a new block is needed, the answer is the question for it, and all host memory for it is at hand. `Internal` while
+    /// another question is open. A refusal changes nothing.
+    pub fn begin(&mut self, desc: &AllocationCreateDesc) -> Result<Progress<H>>
+        ensures begins { Begins self.old desc.now result self.new }
+        ensures gives { Gives H.eq desc.now.requirements.alignment self.old.requests.slots
+            self.new.requests.slots result }
+        ensures keeps { StayLive H.eq self.old.requests.slots self.new.requests.slots }
+    {
+        if self.awaits_answer() {
+            return Err(answer_awaited());
+        }
+        if desc.requirements.size == 0 || !desc.requirements.alignment.is_power_of_two() {
+            return Err(AllocationError::InvalidAllocationCreateDesc);
+        }
+        let bits = desc.requirements.memory_type_bits;
+        match best_type(self.setup.memory_types(), bits, desc.location) {
+            None => Err(AllocationError::NoCompatibleMemoryTypeFound),
+            Some(index) => self.make_attempts(desc, index),
+        }
+    }
+
+    /// The driver granted the memory that was asked for, and mapped it where it was to be mapped: it is the block that was awaited,
+    /// under this handle. It takes no host memory, and isn't refused but where no question is open (`Internal`).
+    pub fn granted(&mut self, handle: H) -> Result<Allocated<H>>
+        ensures grants { Grants self.old handle result self.new }
+        ensures gives { GivesAwaited H.eq self.old.requests.slots self.new.requests.slots result }
+        ensures keeps { StayLive H.eq self.old.requests.slots self.new.requests.slots }
+    {
+        let Some(question) = self.requests.question() else {
+            return Err(no_answer_awaited());
+        };
+        self.asking = None;
+        match self.requests.granted(handle) {
+            Err(error) => Err(error),
+            Ok(piece) => Ok(Allocated {
+                memory_type: question.memory_type,
+                piece,
+                mapped: is_mapped(&self.setup, question.memory_type),
+            }),
+        }
+    }
+
+    /// The driver refused the memory that was asked for, with this code. Where the request has a second attempt, that is what
+    /// counts; else the error says why. `Internal` also where no question is open, with a text of its own.
+    pub fn refused(&mut self, code: i32) -> Result<Progress<H>>
+        ensures declines { Declines self.old (memory_refusal code) result self.new }
+        ensures gives { GivesAgain H.eq self.old.asking self.old.requests.slots
+            self.new.requests.slots result }
+        ensures keeps { StayLive H.eq self.old.requests.slots self.new.requests.slots }
+    {
+        self.declined(refusal_of_memory(code))
+    }
+
+    /// The driver granted the memory, but refused to map it, with this code, or gave a null pointer; the memory has gone back. Then
+    /// as with `refused`.
+    pub fn mapping_refused(&mut self, code: Option<i32>) -> Result<Progress<H>>
+        ensures declines { Declines self.old (map_refusal code) result self.new }
+        ensures gives { GivesAgain H.eq self.old.asking self.old.requests.slots
+            self.new.requests.slots result }
+        ensures keeps { StayLive H.eq self.old.requests.slots self.new.requests.slots }
+    {
+        self.declined(refusal_of_mapping(code))
+    }
+
+    /// Frees a piece of the memory type at `index`, and tells which memory goes back to the driver, where its block is left empty and
+    /// isn't the only shared one of its memory type. It takes no host memory. `Internal` where the piece isn't live, or a question
+    /// is open.
+    pub fn free(&mut self, index: usize, piece: &Piece<H>) -> Result<Option<MemoryBack<H>>>
+        ensures frees { Frees H.eq self.old index piece.now result self.new }
+        ensures keeps { (t : ℕ) (p : Piece H) → IsLive H.eq self.old.requests.slots t p
+            → AreDistinct t p index piece.now → IsLive H.eq self.new.requests.slots t p }
+    {
+        match self.requests.free(index, piece) {
+            Err(error) => Err(error),
+            Ok(went) => Ok(memory_back(&self.setup, index, went)),
+        }
+    }
+
+    /// Renames a piece of the memory type at `index`. `Internal` where the piece isn't live, or a question is open; else
+    /// `HostOutOfMemory`. Then nothing changes.
+    pub fn rename(&mut self, index: usize, piece: &Piece<H>, name: &str) -> Result<()>
+        ensures renames { RenamesIdle H.eq self.old.requests index piece.now name.now result
+            self.new.requests }
+        ensures others { self.new ≡ record self.old { requests = self.new.requests } }
+        ensures keeps { StayLive H.eq self.old.requests.slots self.new.requests.slots }
+    {
+        self.requests.rename(index, piece, name)
+    }
+
+    /// Whether a piece of the memory type at `index` is live.
+    pub fn is_live(&self, index: usize, piece: &Piece<H>) -> bool
+        ensures { IsTrue result ↔ IsLive H.eq self.now.requests.slots index piece.now }
+    {
+        self.memory_types().is_live(index, piece)
+    }
+
+    /// Bounds the sum of the sizes of the blocks of the memory type at `index`, in bytes; `None` takes the bound away. A budget below
+    /// the present sum gives no block back. It takes no host memory. `Internal` where there is no such memory type, or a question is
+    /// open; then nothing changes.
+    pub fn set_budget(&mut self, index: usize, budget: Option<u64>) -> Result<()>
+        ensures budgets { SetsBudgetIdle self.old.requests index budget result self.new.requests }
+        ensures others { self.new ≡ record self.old { requests = self.new.requests } }
+    {
+        self.requests.set_budget(index, budget)
+    }
+
+    /// The budget of the memory type at `index`, in bytes; `None` where it has none, or isn't there.
+    pub fn budget(&self, index: usize) -> Option<u64>
+        ensures { result ≡ budget_at self.now.requests.budgets index }
+    {
+        self.memory_types().budget(index)
+    }
+
+    /// The sum of the sizes of the live blocks, in bytes. A block that is awaited isn't one.
+    pub fn capacity(&self) -> u64
+        ensures { result ≡ total_capacity self.now.requests.slots }
+    {
+        self.memory_types().capacity()
+    }
+
+    /// What is allocated: the live blocks and pieces by memory type, then by slot, pieces by offset, and the sums of both.
+    /// The only refusal is `HostOutOfMemory`.
+    pub fn report(&self) -> Result<AllocatorReport>
+        ensures { Reports self.now.requests.slots result }
+    {
+        self.memory_types().report(self.alloc)
+    }
+
+    /// The live pieces by memory type, then by slot, then in order of offset, with their texts. It takes no memory.
+    pub fn leaks(&self) -> AllLeaks<'_, H>
+        ensures { result ≡ all_leaks self.now.requests.slots }
+    {
+        self.memory_types().leaks()
+    }
+
+    /// The block in a slot of the memory type at `index`, or `None` where there is none. A machine is dropped with its pieces; a
+    /// visit of all slots before shows which memory goes back to the driver then.
+    pub fn block(&self, index: usize, slot: usize) -> Option<LiveBlock<H>>
+        ensures { result ≡ block_at self.now index slot }
+    {
+        match self.memory_type(index) {
+            None => None,
+            Some(found) => live_block(&self.setup, index, found, slot),
+        }
+    }
+
+    /// The memory type at `index`, lent to be looked at, if it is there.
+    pub fn memory_type(&self, index: usize) -> Option<&MemoryType<H>>
+        ensures { slots_at self.now.requests.slots index
+            ≡ unwrap_or (option_map (λ m. m.now.slots) result) [] }
+    {
+        self.memory_types().memory_type(index)
+    }
+
+    /// The memory types, lent to be looked at: their blocks with pieces and gaps, and what is counted of them.
+    pub fn memory_types(&self) -> &MemoryTypes<H>
+        ensures slots { slots_of result.now ≡ self.now.requests.slots }
+        ensures budgets { budgets result.now ≡ self.now.requests.budgets }
+        ensures kinds { kinds result.now ≡ kinds_of_device self.now.setup.properties }
+    {
+        self.requests.memory_types()
+    }
+
+    /// What holds of live pieces at any time, for callers' proofs: all blocks are sound, each piece lies inside its block, no two share
+    /// a byte, those of different kinds share no page (`bufferImageGranularity`), and at most one block of a memory type has none. It
+    /// does nothing.
+    pub fn pieces_are_apart(&self)
+        ensures over { IsOver self.now.setup self.now.requests }
+        ensures types { length self.now.requests.slots
+            ≡ length self.now.setup.properties.types }
+        ensures sound { BlocksWellFormed self.now.setup.properties.granularity
+            self.now.requests.slots }
+        ensures inside { (t : ℕ) (p : Piece H) → IsLive H.eq self.now.requests.slots t p
+            → IsInside self.now.requests.slots t p }
+        ensures apart { (t : ℕ) (p : Piece H) (u : ℕ) (q : Piece H)
+            → IsLive H.eq self.now.requests.slots t p → IsLive H.eq self.now.requests.slots u q
+            → AreDistinct t p u q → SharesNoByte t p u q }
+        ensures pages { (t : ℕ) (p q : Piece H) → IsLive H.eq self.now.requests.slots t p
+            → IsLive H.eq self.now.requests.slots t q
+            → KeepsPages self.now.setup.properties.granularity self.now.requests.slots t p q }
+        ensures empty { EachKeepsOneEmptyAtMost self.now.requests.slots }
+    {
+        self.requests.blocks_are_sound();
+    }
+
+    // The block that was awaited isn't there, for this cause.
+    fn declined(&mut self, error: AllocationError) -> Result<Progress<H>>
+        ensures declines { Declines self.old (refusal_of error) result self.new }
+        ensures gives { GivesAgain H.eq self.old.asking self.old.requests.slots
+            self.new.requests.slots result }
+        ensures keeps { StayLive H.eq self.old.requests.slots self.new.requests.slots }
+    {
+        let Some(asking) = self.asking.take() else {
+            return Err(no_answer_awaited());
+        };
+        match self.requests.declined() {
+            Err(late) => Err(late),
+            Ok(()) => {
+                if asking.is_second {
+                    return Err(error);
+                }
+                let desc = asking.description.lend();
+                self.follow(&desc, error)
+            }
+        }
+    }
+
+    // The attempts that begin at the memory type at `index`, up to the first question.
+    fn make_attempts(&mut self, desc: &AllocationCreateDesc, index: usize) -> Result<Progress<H>>
+        requires idle { self.old.requests.awaited ≡ None }
+        requires sized { 0 < desc.now.requirements.size }
+        requires aligned { IsTrue (is_power_of_two desc.now.requirements.alignment) }
+        requires there { index < length self.old.setup.properties.types }
+        ensures attempts { MakesAttempts self.old index desc.now result self.new }
+        ensures gives { Gives H.eq desc.now.requirements.alignment self.old.requests.slots
+            self.new.requests.slots result }
+        ensures keeps { StayLive H.eq self.old.requests.slots self.new.requests.slots }
+    {
+        match self.attempt(desc, index, false) {
+            Ok(progress) => Ok(progress),
+            Err(error) => self.follow(desc, error),
+        }
+    }
+
+    // After a refusal the second attempt, where there is one.
+    fn follow(&mut self, desc: &AllocationCreateDesc, error: AllocationError) -> Result<Progress<H>>
+        requires idle { self.old.requests.awaited ≡ None }
+        requires sized { 0 < desc.now.requirements.size }
+        requires aligned { IsTrue (is_power_of_two desc.now.requirements.alignment) }
+        ensures follows { Follows self.old desc.now
+            (next_type self.old.setup desc.now (refusal_of error)) (refusal_of error) result
+            self.new }
+        ensures gives { Gives H.eq desc.now.requirements.alignment self.old.requests.slots
+            self.new.requests.slots result }
+        ensures keeps { StayLive H.eq self.old.requests.slots self.new.requests.slots }
+    {
+        match next_type(&self.setup, desc, &error) {
+            None => Err(error),
+            Some(next) => self.attempt(desc, next, true),
+        }
+    }
+
+    // One attempt at the memory type at `index`, up to its question.
+    fn attempt(
+        &mut self,
+        desc: &AllocationCreateDesc,
+        index: usize,
+        is_second: bool,
+    ) -> Result<Progress<H>>
+        requires idle { self.old.requests.awaited ≡ None }
+        requires sized { 0 < desc.now.requirements.size }
+        requires aligned { IsTrue (is_power_of_two desc.now.requirements.alignment) }
+        requires there { index < length self.old.setup.properties.types }
+        ensures tries { Tries self.old index desc.now is_second result self.new }
+        ensures gives { Gives H.eq desc.now.requirements.alignment self.old.requests.slots
+            self.new.requests.slots result }
+        ensures keeps { StayLive H.eq self.old.requests.slots self.new.requests.slots }
+    {
+        if desc.requirements.size > self.setup.heap_size(index) {
+            return Err(AllocationError::OutOfMemory);
+        }
+        let block = match self.requests.begin(index, &request_of(desc)) {
+            Err(error) => return Err(error),
+            Ok(Begun::Piece(piece)) => {
+                return Ok(Progress::Piece(Allocated {
+                    memory_type: index,
+                    piece,
+                    mapped: is_mapped(&self.setup, index),
+                }));
+            }
+            Ok(Begun::Question(block)) => block,
+        };
+        let Ok(asking) = Asking::of(self.alloc, desc, is_second) else {
+            return match self.requests.declined() {
+                Err(error) => Err(error),
+                Ok(()) => Err(AllocationError::HostOutOfMemory),
+            };
+        };
+        self.asking = Some(asking);
+        Ok(Progress::Question(Question {
+            block,
+            mapped: is_mapped(&self.setup, index),
+        }))
+    }
+}
