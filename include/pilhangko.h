@@ -3,8 +3,8 @@
  * It says where pieces lie; it holds no memory of a device and calls no driver. Link libgpu_c.a, and pilhangko_heap.c over the program's
  * malloc, realloc and free (docs/C.md). No call blocks, calls back or starts a thread.
  *
- * Handles. A pilhangko_virtual_block, a pilhangko_memory_type or a pilhangko_allocator is one pointer that the caller keeps and the
- * library owns. The caller upholds:
+ * Handles. A pilhangko_virtual_block, a pilhangko_ring, a pilhangko_memory_type or a pilhangko_allocator is one pointer that the caller
+ * keeps and the library owns. The caller upholds:
  *   - It begins zeroed, as in `pilhangko_virtual_block block = {0};`, and is empty then. create fills it, destroy leaves it empty. Each
  *     other call on an empty handle returns PILHANGKO_NO_HANDLE, so a call after destroy and a second destroy are refused.
  *   - It is never copied, and its field is never written or read. (To move it, copy it and never use the old one again.)
@@ -81,18 +81,21 @@ typedef uint32_t pilhangko_status;
 enum {
     /* The call did what it says. */
     PILHANGKO_OK = 0,
-    /* No gap has a place for the request; or the sum of a memory type's block sizes would pass 2^64 - 1. Of an allocator: the request is
-     * larger than its heap, the driver has no memory left, or the sum of all blocks' sizes would pass 2^64 - 1. */
+    /* No gap, or no part of a ring, has a place for the request; or the sum of a memory type's block sizes would pass 2^64 - 1. Of an
+     * allocator: the request is larger than its heap, the driver has no memory left, or the sum of all blocks' sizes would pass 2^64 - 1. Of a
+     * plan: in each order the heap's size would pass 2^64 - 1. */
     PILHANGKO_OUT_OF_MEMORY = 1,
     /* The driver granted memory, but didn't map it. Of an allocator alone, as 3, 5, 12 and 13. */
     PILHANGKO_FAILED_TO_MAP = 2,
     /* No memory type that the request allows has what its location needs. */
     PILHANGKO_NO_MEMORY_TYPE = 3,
-    /* A size of 0, an alignment or a page size that is no power of two, an unknown kind, location or scheme, or a name that isn't UTF-8. */
+    /* A size of 0, an alignment or a page size that is no power of two, an unknown kind, location or scheme, or a name that isn't UTF-8. Of a
+     * ring: a size of 0 or of 2^63 and more, or an alignment of 0. Of a plan also a last pass before the first, and an index that no resource
+     * has. */
     PILHANGKO_INVALID = 4,
     /* The page size of a device is no power of two. */
     PILHANGKO_INVALID_DEVICE = 5,
-    /* No live piece is the one that is named. */
+    /* No live piece is the one that is named; or no frame in flight. */
     PILHANGKO_NOT_LIVE = 6,
     /* malloc or realloc refused. */
     PILHANGKO_HOST_OUT_OF_MEMORY = 10,
@@ -118,6 +121,8 @@ enum {
     PILHANGKO_AWAITS_ANSWER = 104,
     /* No question is open, so there is none to answer. */
     PILHANGKO_AWAITS_NO_ANSWER = 105,
+    /* As many frames are in flight as a ring has room for: call retire first. */
+    PILHANGKO_TOO_MANY_FRAMES = 106,
     /* A pointer is NULL that may not be. Only the headers' calls return it; the archive's symbols look at none. */
     PILHANGKO_NULL_POINTER = 200,
     /* The driver refused to make, to bind, to flush or to invalidate, or said VK_SUCCESS and gave a null handle. */
@@ -197,6 +202,34 @@ typedef struct pilhangko_piece_view {
     uint64_t end;
     pilhangko_kind kind;
 } pilhangko_piece_view;
+
+/* ---- Rings: one block of a size, whose pieces go to the next place and are freed a frame at a time. Numbers alone, as above. ---- */
+
+typedef struct pilhangko_ring {
+    void *opaque; /* the library's own */
+} pilhangko_ring;
+
+/* What is counted of a frame. */
+typedef struct pilhangko_ring_frame_counts {
+    uint64_t pieces;
+    uint64_t bytes; /* what they take, with the padding before them and the bytes at the ring's end that they skipped */
+} pilhangko_ring_frame_counts;
+
+/* What is counted of a ring. */
+typedef struct pilhangko_ring_counts {
+    uint64_t size;                       /* of the ring */
+    uint64_t taken;                      /* the bytes of all frames in flight and of the open one */
+    size_t frames;                       /* frames in flight: ended and not yet retired */
+    uint64_t oldest;                     /* the oldest one's number, from which on they count up; where none is, the open one's */
+    pilhangko_ring_frame_counts current; /* of the open frame */
+} pilhangko_ring_counts;
+
+/* Where bytes of a ring lie that go on from one another, round its end: `size` bytes from `offset` on, and `rest` bytes from 0 on. */
+typedef struct pilhangko_ring_stretch {
+    uint64_t offset;
+    uint64_t size;
+    uint64_t rest;
+} pilhangko_ring_stretch;
 
 /* ---- Memory types: blocks that come and go, each asked of the driver by the caller. ---- */
 
@@ -292,7 +325,6 @@ typedef struct pilhangko_allocator_settings {
     uint64_t largest_device_block_size;
     uint64_t host_block_size; /* 64 MB suit where memory is plenty */
     uint64_t largest_host_block_size;
-    bool device_address; /* whether memory is made so that shaders may read its address: bufferDeviceAddress */
 } pilhangko_allocator_settings;
 
 /* Who reads and writes a piece. */
@@ -327,21 +359,20 @@ typedef struct pilhangko_allocator_request {
     uint64_t resource; /* the VkBuffer or VkImage that it is for alone; it counts where it is for one */
 } pilhangko_allocator_request;
 
-/* A piece: its memory type, whether its block is mapped, and where it lies; piece.block is the driver's memory. No call reads mapped. */
+/* A piece: its memory type, the address at which its block is mapped, as granted was told it, and where it lies; piece.block is the driver's
+ * memory. Where the address isn't 0, the piece's own bytes begin at address + piece.offset. */
 typedef struct pilhangko_allocator_piece {
     size_t memory_type;
-    bool mapped;
+    uint64_t address;
     pilhangko_memory_piece piece;
 } pilhangko_allocator_piece;
 
-/* What the driver is to be asked for (VkMemoryAllocateInfo and what is chained to it). */
+/* What the driver is to be asked for: memory of this size and type, for the resource alone that the request names, if it names one. */
 typedef struct pilhangko_allocator_question {
     uint64_t size;
-    uint32_t memory_type;
-    pilhangko_scheme scheme;
-    uint64_t resource;   /* the VkBuffer or VkImage that it is for alone, else 0 */
-    bool device_address; /* VK_MEMORY_ALLOCATE_DEVICE_ADDRESS_BIT */
-    bool mapped;         /* whether it is to be mapped, whole */
+    size_t memory_type;
+    bool dedicated; /* whether it is one piece's own, and not shared */
+    bool mapped;    /* whether it is to be mapped, whole */
 } pilhangko_allocator_question;
 
 /* What a request leads to. */
@@ -367,7 +398,18 @@ typedef struct pilhangko_allocator_memory {
     bool exists;
     bool mapped;
     uint64_t memory;
+    uint64_t address; /* at which it is mapped, as granted was told it */
 } pilhangko_allocator_memory;
+
+/* A live block, or none (then all is 0). */
+typedef struct pilhangko_allocator_live_block {
+    bool exists;
+    bool mapped;
+    bool shared; /* whether pieces share it; else it is one piece's own */
+    uint64_t memory;
+    uint64_t address; /* at which it is mapped, as granted was told it */
+    uint64_t size;
+} pilhangko_allocator_live_block;
 
 /* What is counted of a memory type, and of all its blocks together. */
 typedef struct pilhangko_type_statistics {
@@ -387,6 +429,39 @@ typedef struct pilhangko_budget {
     bool exists;
     uint64_t bytes;
 } pilhangko_budget;
+
+/* ---- Plans: transient resources of a frame that share the memory of one heap. No handle: each call is a function of what it is given. ---- */
+
+/* A resource that passes of a frame use. It is alive from its first pass to its last one, both included; passes are numbered in the order in
+ * which they run. */
+typedef struct pilhangko_plan_resource {
+    uint64_t size;      /* not 0 */
+    uint64_t alignment; /* a power of two */
+    pilhangko_kind kind;
+    uint64_t first_pass;
+    uint64_t last_pass; /* not before the first */
+} pilhangko_plan_resource;
+
+/* An order in which resources are placed, each at the least offset that is free; of equal ones the one with the least index goes first. */
+typedef PILHANGKO_ENUM(pilhangko_plan_order) {
+    /* The largest size first. */
+    PILHANGKO_PLAN_ORDER_SIZE = 1,
+    /* The largest product of size and number of passes first. */
+    PILHANGKO_PLAN_ORDER_AREA = 2,
+    /* The largest alignment first, of equal ones the largest size. */
+    PILHANGKO_PLAN_ORDER_ALIGNMENT = 3,
+    /* The largest power of two in the size first, of equal ones the longest life, of equal ones the largest size. */
+    PILHANGKO_PLAN_ORDER_MAGNITUDE = 4,
+    /* The pass with the most bytes alive first: in each the resources that no pass before it has, the largest first. */
+    PILHANGKO_PLAN_ORDER_BREADTH = 5
+} pilhangko_plan_order;
+
+/* What a plan says beside the offsets. */
+typedef struct pilhangko_heap_plan {
+    uint64_t heap_size; /* the byte behind the last resource; 0 without resources */
+    uint64_t peak;      /* the most bytes that are alive in one pass: no heap is smaller */
+    pilhangko_plan_order order;
+} pilhangko_heap_plan;
 
 /* ---- The archive's symbols, for callers in other languages. No pointer may be NULL, also not of a name with length 0. ---- */
 
@@ -411,6 +486,20 @@ PILHANGKO_NODISCARD PILHANGKO_API pilhangko_status PILHANGKO_CALL pilhangko_raw_
 PILHANGKO_NODISCARD PILHANGKO_API pilhangko_status PILHANGKO_CALL pilhangko_raw_virtual_block_piece_names(
     const pilhangko_virtual_block *block, uint64_t from, size_t *lengths, size_t room, char *names, size_t names_room, size_t *count);
 PILHANGKO_API pilhangko_status PILHANGKO_CALL pilhangko_raw_virtual_block_destroy(pilhangko_virtual_block *block);
+
+PILHANGKO_NODISCARD PILHANGKO_API pilhangko_status PILHANGKO_CALL pilhangko_raw_ring_create(
+    pilhangko_ring *ring, uint64_t size, size_t frames);
+PILHANGKO_NODISCARD PILHANGKO_API pilhangko_status PILHANGKO_CALL pilhangko_raw_ring_allocate(
+    pilhangko_ring *ring, uint64_t size, uint64_t alignment, uint64_t *offset);
+PILHANGKO_NODISCARD PILHANGKO_API pilhangko_status PILHANGKO_CALL pilhangko_raw_ring_end_frame(pilhangko_ring *ring, uint64_t *frame);
+PILHANGKO_NODISCARD PILHANGKO_API pilhangko_status PILHANGKO_CALL pilhangko_raw_ring_retire(pilhangko_ring *ring, uint64_t frame);
+PILHANGKO_NODISCARD PILHANGKO_API pilhangko_status PILHANGKO_CALL pilhangko_raw_ring_statistics(
+    const pilhangko_ring *ring, pilhangko_ring_counts *counts);
+PILHANGKO_NODISCARD PILHANGKO_API pilhangko_status PILHANGKO_CALL pilhangko_raw_ring_current_stretch(
+    const pilhangko_ring *ring, pilhangko_ring_stretch *stretch);
+PILHANGKO_NODISCARD PILHANGKO_API pilhangko_status PILHANGKO_CALL pilhangko_raw_ring_frame_statistics(
+    const pilhangko_ring *ring, uint64_t frame, pilhangko_ring_frame_counts *counts);
+PILHANGKO_API pilhangko_status PILHANGKO_CALL pilhangko_raw_ring_destroy(pilhangko_ring *ring);
 
 PILHANGKO_NODISCARD PILHANGKO_API pilhangko_status PILHANGKO_CALL pilhangko_raw_memory_type_create(
     pilhangko_memory_type *type, const pilhangko_memory_type_settings *settings);
@@ -451,7 +540,7 @@ PILHANGKO_NODISCARD PILHANGKO_API pilhangko_status PILHANGKO_CALL pilhangko_raw_
     pilhangko_allocator *allocator, const pilhangko_allocator_request *request, const char *name, size_t name_length,
     pilhangko_allocator_progress *progress);
 PILHANGKO_NODISCARD PILHANGKO_API pilhangko_status PILHANGKO_CALL pilhangko_raw_allocator_granted(
-    pilhangko_allocator *allocator, uint64_t memory, pilhangko_allocator_piece *piece);
+    pilhangko_allocator *allocator, uint64_t memory, uint64_t address, pilhangko_allocator_piece *piece);
 PILHANGKO_NODISCARD PILHANGKO_API pilhangko_status PILHANGKO_CALL pilhangko_raw_allocator_refused(
     pilhangko_allocator *allocator, int32_t code, pilhangko_allocator_progress *progress);
 PILHANGKO_NODISCARD PILHANGKO_API pilhangko_status PILHANGKO_CALL pilhangko_raw_allocator_mapping_refused(
@@ -468,10 +557,12 @@ PILHANGKO_NODISCARD PILHANGKO_API pilhangko_status PILHANGKO_CALL pilhangko_raw_
     const pilhangko_allocator *allocator, size_t memory_type, pilhangko_budget *budget);
 PILHANGKO_NODISCARD PILHANGKO_API pilhangko_status PILHANGKO_CALL pilhangko_raw_allocator_capacity(
     const pilhangko_allocator *allocator, uint64_t *bytes);
+PILHANGKO_NODISCARD PILHANGKO_API pilhangko_status PILHANGKO_CALL pilhangko_raw_allocator_type_capacity(
+    const pilhangko_allocator *allocator, size_t memory_type, uint64_t *bytes);
 PILHANGKO_NODISCARD PILHANGKO_API pilhangko_status PILHANGKO_CALL pilhangko_raw_allocator_type_statistics(
     const pilhangko_allocator *allocator, size_t memory_type, pilhangko_type_statistics *statistics);
 PILHANGKO_NODISCARD PILHANGKO_API pilhangko_status PILHANGKO_CALL pilhangko_raw_allocator_block(
-    const pilhangko_allocator *allocator, size_t memory_type, size_t slot, pilhangko_allocator_memory *memory);
+    const pilhangko_allocator *allocator, size_t memory_type, size_t slot, pilhangko_allocator_live_block *block);
 PILHANGKO_NODISCARD PILHANGKO_API pilhangko_status PILHANGKO_CALL pilhangko_raw_allocator_block_statistics(
     const pilhangko_allocator *allocator, size_t memory_type, size_t slot, pilhangko_memory_block_statistics *statistics);
 PILHANGKO_NODISCARD PILHANGKO_API pilhangko_status PILHANGKO_CALL pilhangko_raw_allocator_pieces(const pilhangko_allocator *allocator,
@@ -483,6 +574,11 @@ PILHANGKO_NODISCARD PILHANGKO_API pilhangko_status PILHANGKO_CALL pilhangko_raw_
 PILHANGKO_NODISCARD PILHANGKO_API pilhangko_status PILHANGKO_CALL pilhangko_raw_allocator_leak(
     const pilhangko_allocator *allocator, size_t index, char *text, size_t room, size_t *length);
 PILHANGKO_API pilhangko_status PILHANGKO_CALL pilhangko_raw_allocator_destroy(pilhangko_allocator *allocator);
+
+PILHANGKO_NODISCARD PILHANGKO_API pilhangko_status PILHANGKO_CALL pilhangko_raw_plan(const pilhangko_plan_resource *resources, size_t count,
+    uint64_t page_size, uint64_t *offsets, size_t room, pilhangko_heap_plan *plan);
+PILHANGKO_NODISCARD PILHANGKO_API pilhangko_status PILHANGKO_CALL pilhangko_raw_plan_reuses(const pilhangko_plan_resource *resources,
+    size_t count, const uint64_t *offsets, size_t offset_count, size_t index, size_t *reused, size_t room, size_t *reused_count);
 
 /* ---- The calls ---- */
 
@@ -508,6 +604,7 @@ static inline const char *pilhangko_status_name(pilhangko_status status) {
     case PILHANGKO_AWAITS_NO_BLOCK: return "PILHANGKO_AWAITS_NO_BLOCK";
     case PILHANGKO_AWAITS_ANSWER: return "PILHANGKO_AWAITS_ANSWER";
     case PILHANGKO_AWAITS_NO_ANSWER: return "PILHANGKO_AWAITS_NO_ANSWER";
+    case PILHANGKO_TOO_MANY_FRAMES: return "PILHANGKO_TOO_MANY_FRAMES";
     case PILHANGKO_NULL_POINTER: return "PILHANGKO_NULL_POINTER";
     case PILHANGKO_VULKAN_CALL_FAILED: return "PILHANGKO_VULKAN_CALL_FAILED";
     case PILHANGKO_VULKAN_NO_FUNCTION: return "PILHANGKO_VULKAN_NO_FUNCTION";
@@ -526,12 +623,12 @@ static inline const char *pilhangko_status_name(pilhangko_status status) {
 static inline const char *pilhangko_status_text(pilhangko_status status) {
     switch (status) {
     case PILHANGKO_OK: return "the call did what it says";
-    case PILHANGKO_OUT_OF_MEMORY: return "out of memory: no gap has a place, or the sum of the blocks' sizes would pass 64 bits";
+    case PILHANGKO_OUT_OF_MEMORY: return "out of memory: no gap or part of a ring has a place, or the sum of the blocks' sizes would pass 64 bits";
     case PILHANGKO_FAILED_TO_MAP: return "the driver granted memory, but didn't map it";
     case PILHANGKO_NO_MEMORY_TYPE: return "no memory type that the request allows has what its location needs";
     case PILHANGKO_INVALID: return "invalid request: a size, an alignment, a page size, a kind or a name";
     case PILHANGKO_INVALID_DEVICE: return "invalid device: the page size is no power of two";
-    case PILHANGKO_NOT_LIVE: return "no live piece is the one that is named";
+    case PILHANGKO_NOT_LIVE: return "no live piece, or no frame in flight, is the one that is named";
     case PILHANGKO_HOST_OUT_OF_MEMORY: return "out of host memory: malloc or realloc refused";
     case PILHANGKO_BUDGET_EXCEEDED: return "the block that is needed would pass the budget";
     case PILHANGKO_DRIVER_REFUSED: return "the driver refused memory with a code that has no status of its own";
@@ -544,6 +641,7 @@ static inline const char *pilhangko_status_text(pilhangko_status status) {
     case PILHANGKO_AWAITS_NO_BLOCK: return "no block is awaited";
     case PILHANGKO_AWAITS_ANSWER: return "a question is open: answer it first";
     case PILHANGKO_AWAITS_NO_ANSWER: return "no question is open";
+    case PILHANGKO_TOO_MANY_FRAMES: return "as many frames are in flight as there is room for: retire one first";
     case PILHANGKO_NULL_POINTER: return "a pointer is NULL that may not be";
     case PILHANGKO_VULKAN_CALL_FAILED: return "the driver refused to make, to bind, to flush or to invalidate";
     case PILHANGKO_VULKAN_NO_FUNCTION: return "a function of Vulkan that is needed is missing";
@@ -675,6 +773,72 @@ PILHANGKO_NODISCARD static inline pilhangko_status pilhangko_virtual_block_piece
 static inline pilhangko_status pilhangko_virtual_block_destroy(pilhangko_virtual_block *block) {
     if (!block) return PILHANGKO_NULL_POINTER;
     return pilhangko_raw_virtual_block_destroy(block);
+}
+
+/* Makes a ring of `size` bytes, not 0 and below 2^63, in an empty handle, with room for so many frames in flight. No later call of the ring
+ * takes host memory. How large it has to be: where no request's size + alignment - 1 is above m, those of one frame sum up to at most M, and
+ * at most k frames are in flight, a ring of (k + 1) * M + m - 1 bytes with room for k frames refuses none.
+ * IN_USE: the handle isn't empty. INVALID: size. HOST_OUT_OF_MEMORY. */
+PILHANGKO_NODISCARD static inline pilhangko_status pilhangko_ring_create(pilhangko_ring *ring, uint64_t size, size_t frames) {
+    if (!ring) return PILHANGKO_NULL_POINTER;
+    return pilhangko_raw_ring_create(ring, size, frames);
+}
+
+/* Allocates a piece of the open frame, at an offset that is a multiple of the alignment, which may be any but 0. It begins at the first such
+ * offset from the last piece on (from 0 on where nothing is taken), round the ring, at which it doesn't run over the ring's end; what is
+ * skipped is taken with it.
+ * NO_HANDLE. INVALID: size or alignment is 0. OUT_OF_MEMORY: a piece there would meet the oldest one that isn't freed. */
+PILHANGKO_NODISCARD static inline pilhangko_status pilhangko_ring_allocate(
+    pilhangko_ring *ring, uint64_t size, uint64_t alignment, uint64_t *offset) {
+    if (!ring || !offset) return PILHANGKO_NULL_POINTER;
+    return pilhangko_raw_ring_allocate(ring, size, alignment, offset);
+}
+
+/* Ends the open frame: it is in flight from then on, under the next number, from 0 up. The next piece begins another frame.
+ * NO_HANDLE. TOO_MANY_FRAMES: create made no room for one more. */
+PILHANGKO_NODISCARD static inline pilhangko_status pilhangko_ring_end_frame(pilhangko_ring *ring, uint64_t *frame) {
+    if (!ring || !frame) return PILHANGKO_NULL_POINTER;
+    return pilhangko_raw_ring_end_frame(ring, frame);
+}
+
+/* Frees the pieces of a frame in flight and of each older one: call it once the device has finished with that frame, when its fence or its
+ * timeline semaphore says so.
+ * NO_HANDLE. NOT_LIVE: the frame isn't in flight. */
+PILHANGKO_NODISCARD static inline pilhangko_status pilhangko_ring_retire(pilhangko_ring *ring, uint64_t frame) {
+    if (!ring) return PILHANGKO_NULL_POINTER;
+    return pilhangko_raw_ring_retire(ring, frame);
+}
+
+/* What is counted of a ring and of its open frame.
+ * NO_HANDLE. */
+PILHANGKO_NODISCARD static inline pilhangko_status pilhangko_ring_statistics(
+    const pilhangko_ring *ring, pilhangko_ring_counts *counts) {
+    if (!ring || !counts) return PILHANGKO_NULL_POINTER;
+    return pilhangko_raw_ring_statistics(ring, counts);
+}
+
+/* Where the bytes of the open frame lie, padding and skipped ones too: flush them before the device reads them, where the ring's memory needs
+ * flushes.
+ * NO_HANDLE. */
+PILHANGKO_NODISCARD static inline pilhangko_status pilhangko_ring_current_stretch(
+    const pilhangko_ring *ring, pilhangko_ring_stretch *stretch) {
+    if (!ring || !stretch) return PILHANGKO_NULL_POINTER;
+    return pilhangko_raw_ring_current_stretch(ring, stretch);
+}
+
+/* What is counted of a frame in flight.
+ * NO_HANDLE. NOT_LIVE: the frame isn't in flight. */
+PILHANGKO_NODISCARD static inline pilhangko_status pilhangko_ring_frame_statistics(
+    const pilhangko_ring *ring, uint64_t frame, pilhangko_ring_frame_counts *counts) {
+    if (!ring || !counts) return PILHANGKO_NULL_POINTER;
+    return pilhangko_raw_ring_frame_statistics(ring, frame, counts);
+}
+
+/* Ends a ring, with all its pieces, and leaves the handle empty.
+ * NO_HANDLE. */
+static inline pilhangko_status pilhangko_ring_destroy(pilhangko_ring *ring) {
+    if (!ring) return PILHANGKO_NULL_POINTER;
+    return pilhangko_raw_ring_destroy(ring);
 }
 
 /* Makes a memory type without blocks in an empty handle.
@@ -838,13 +1002,14 @@ PILHANGKO_NODISCARD static inline pilhangko_status pilhangko_allocator_begin(pil
     return pilhangko_raw_allocator_begin(allocator, request, pilhangko_name_bytes(name), pilhangko_name_length(name), progress);
 }
 
-/* The driver granted the memory that was asked for, and mapped it where it was to be mapped: says where the piece is; it begins at the
- * memory's start. It needs no host memory, so that memory which the driver gave is never lost. Memories of live blocks should differ.
+/* The driver granted the memory that was asked for, and mapped it at that address where it was to be mapped, 0 where it wasn't: says where
+ * the piece is; it begins at the memory's start. It needs no host memory, so that memory which the driver gave is never lost. Memories of
+ * live blocks should differ.
  * NO_HANDLE. AWAITS_NO_ANSWER. */
 PILHANGKO_NODISCARD static inline pilhangko_status pilhangko_allocator_granted(
-    pilhangko_allocator *allocator, uint64_t memory, pilhangko_allocator_piece *piece) {
+    pilhangko_allocator *allocator, uint64_t memory, uint64_t address, pilhangko_allocator_piece *piece) {
     if (!allocator || !piece) return PILHANGKO_NULL_POINTER;
-    return pilhangko_raw_allocator_granted(allocator, memory, piece);
+    return pilhangko_raw_allocator_granted(allocator, memory, address, piece);
 }
 
 /* The driver refused the memory, with this code (VkResult). An upload may have a second attempt: progress then is its piece or its
@@ -915,7 +1080,15 @@ PILHANGKO_NODISCARD static inline pilhangko_status pilhangko_allocator_capacity(
     return pilhangko_raw_allocator_capacity(allocator, bytes);
 }
 
-/* What is counted of a memory type. Memory types are numbered from 0 up to the first NO_SUCH_TYPE.
+/* The sum of the sizes of a memory type's blocks.
+ * NO_HANDLE. NO_SUCH_TYPE. */
+PILHANGKO_NODISCARD static inline pilhangko_status pilhangko_allocator_type_capacity(
+    const pilhangko_allocator *allocator, size_t memory_type, uint64_t *bytes) {
+    if (!allocator || !bytes) return PILHANGKO_NULL_POINTER;
+    return pilhangko_raw_allocator_type_capacity(allocator, memory_type, bytes);
+}
+
+/* What is counted of a memory type, in linear time. Memory types are numbered from 0 up to the first NO_SUCH_TYPE.
  * NO_HANDLE. NO_SUCH_TYPE. */
 PILHANGKO_NODISCARD static inline pilhangko_status pilhangko_allocator_type_statistics(
     const pilhangko_allocator *allocator, size_t memory_type, pilhangko_type_statistics *statistics) {
@@ -945,13 +1118,13 @@ PILHANGKO_NODISCARD static inline pilhangko_status pilhangko_allocator_statistic
     return PILHANGKO_OK;
 }
 
-/* The memory of the block in a slot of a memory type, if one is there. Slots are numbered from 0 to one less than type_statistics' slots;
- * behind them there is none.
+/* The block in a slot of a memory type, if one is there. Slots are numbered from 0 to one less than type_statistics' slots; behind them
+ * there is none.
  * NO_HANDLE. */
 PILHANGKO_NODISCARD static inline pilhangko_status pilhangko_allocator_block(
-    const pilhangko_allocator *allocator, size_t memory_type, size_t slot, pilhangko_allocator_memory *memory) {
-    if (!allocator || !memory) return PILHANGKO_NULL_POINTER;
-    return pilhangko_raw_allocator_block(allocator, memory_type, slot, memory);
+    const pilhangko_allocator *allocator, size_t memory_type, size_t slot, pilhangko_allocator_live_block *block) {
+    if (!allocator || !block) return PILHANGKO_NULL_POINTER;
+    return pilhangko_raw_allocator_block(allocator, memory_type, slot, block);
 }
 
 /* What is counted of the block in a slot.
@@ -1009,6 +1182,32 @@ PILHANGKO_NODISCARD static inline pilhangko_status pilhangko_allocator_leak(
 static inline pilhangko_status pilhangko_allocator_destroy(pilhangko_allocator *allocator) {
     if (!allocator) return PILHANGKO_NULL_POINTER;
     return pilhangko_raw_allocator_destroy(allocator);
+}
+
+/* Places resources in one heap: at the offsets of the order with the smallest heap, of equal ones the first of pilhangko_plan_order. Two
+ * resources that are alive in one pass share no byte, and no page of page_size bytes (a power of two: bufferImageGranularity) where their
+ * kinds differ; each offset is a multiple of its resource's alignment. Fills offsets, which has room for count of them, and plan. Equal
+ * resources have equal plans. Where count is 0, resources and offsets may be NULL.
+ * INVALID: page_size or a resource. OUT_OF_MEMORY: in each order the heap's size would pass 2^64 - 1. HOST_OUT_OF_MEMORY, which can also come
+ * before an OUT_OF_MEMORY is known. */
+PILHANGKO_NODISCARD static inline pilhangko_status pilhangko_plan(const pilhangko_plan_resource *resources, size_t count, uint64_t page_size,
+    uint64_t *offsets, pilhangko_heap_plan *plan) {
+    static const pilhangko_plan_resource no_resource = {0, 0, PILHANGKO_KIND_LINEAR, 0, 0};
+    uint64_t no_offset = 0;
+    if ((!resources && count) || (!offsets && count) || !plan) return PILHANGKO_NULL_POINTER;
+    return pilhangko_raw_plan(resources ? resources : &no_resource, count, page_size, offsets ? offsets : &no_offset, count, plan);
+}
+
+/* Which resources the one at an index takes bytes over from: those whose life ended before its own begins, and some of whose bytes it has at
+ * these offsets. An aliasing barrier goes between each of them and this one, before its first pass. Copies as many of their indices, which
+ * ascend, as there is room for, and reports in reused_count how many there are, which can be more. Where room
+ * is 0, reused may be NULL.
+ * INVALID: no resource has that index. HOST_OUT_OF_MEMORY. */
+PILHANGKO_NODISCARD static inline pilhangko_status pilhangko_plan_reuses(const pilhangko_plan_resource *resources, size_t count,
+    const uint64_t *offsets, size_t index, size_t *reused, size_t room, size_t *reused_count) {
+    size_t none;
+    if (!resources || !offsets || (!reused && room) || !reused_count) return PILHANGKO_NULL_POINTER;
+    return pilhangko_raw_plan_reuses(resources, count, offsets, count, index, reused ? reused : &none, room, reused_count);
 }
 
 #ifdef __cplusplus

@@ -1,13 +1,14 @@
 /* Pilhangko's Vulkan binding: memory, buffers and images of a VkDevice, placed by a pilhangko_allocator.
  *
- * The binding asks the driver for blocks, maps those that the host can see, and keeps them; the allocator says where each piece lies
- * (pilhangko.h). Compile c/pilhangko_vulkan.c and c/pilhangko_heap.c with the program, and link libgpu_c.a. It needs Vulkan's headers of
- * version 1.2 or later, and runs on drivers from Vulkan 1.0 on. It calls the driver through a table of functions, so it links no loader;
- * its own host memory is malloc's.
+ * The binding asks the driver for blocks and maps those that the host can see; the allocator keeps them, and says where each piece lies
+ * (pilhangko.h). Compile c/pilhangko_vulkan.c and c/pilhangko_heap.c with the program (and c/pilhangko_vulkan_ring.c where it has rings),
+ * and link libgpu_c.a. It needs Vulkan's headers of version 1.2 or later, and runs on drivers from Vulkan 1.0 on. It calls the driver
+ * through a table of functions, so it links no loader; its own host memory is malloc's.
  *
  * Handles. A pilhangko_vulkan is one pointer that begins zeroed, as in `pilhangko_vulkan vulkan = {0};`, and keeps the rules of the handles
- * of pilhangko.h: never copied, given to one call at a time, on any thread. The physical device and the device outlive it. What Vulkan
- * wants of the caller it still wants: resources that the device uses aren't destroyed, for instance.
+ * of pilhangko.h: it is never copied. But any threads may call it at once: it has a lock, which externally_synchronized leaves out; create
+ * and destroy stand alone. The physical device and the device outlive it. What Vulkan wants of the caller it still wants: resources that
+ * the device uses aren't destroyed, for instance.
  *
  * Statuses. A call that asks the driver returns a pilhangko_vulkan_result: why it failed, and beside it the driver's code. Causes
  * are listed at each call in the order in which they count. Whatever isn't PILHANGKO_OK leaves all as it was, out parameters too; but a
@@ -93,6 +94,7 @@ typedef struct pilhangko_vulkan_settings {
     VkDeviceSize largest_host_block_size;
     pilhangko_vulkan_write capture_write; /* where the capture goes; NULL for no capture */
     void *capture_user;                   /* handed to capture_write */
+    bool externally_synchronized;         /* whether the caller sees to it that one call is made at a time: no lock is taken */
 } pilhangko_vulkan_settings;
 
 /* Makes a binding without blocks in an empty handle. It asks the driver for the device's properties, and for no memory.
@@ -162,8 +164,7 @@ typedef struct pilhangko_vulkan_allocation {
  * flush touches no other allocation.
  * NULL_POINTER. NO_HANDLE. INVALID: a null buffer or image that counts. HOST_OUT_OF_MEMORY: the binding's own. Then the causes of
  * pilhangko_allocator_begin, or why the driver refused, as with pilhangko_allocator_refused: OUT_OF_MEMORY, DRIVER_REFUSED or
- * FAILED_TO_MAP. A driver that gives a null handle has no memory left; one that gives memory which is held already refuses it by
- * VK_ERROR_UNKNOWN. */
+ * FAILED_TO_MAP. A driver that gives a null handle has no memory left. */
 PILHANGKO_NODISCARD PILHANGKO_API pilhangko_vulkan_result PILHANGKO_CALL pilhangko_vulkan_allocate(
     pilhangko_vulkan *vulkan, const pilhangko_vulkan_request *request, pilhangko_vulkan_allocation *allocation);
 
@@ -185,6 +186,14 @@ PILHANGKO_NODISCARD PILHANGKO_API pilhangko_vulkan_result PILHANGKO_CALL pilhang
     const pilhangko_vulkan *vulkan, const pilhangko_vulkan_allocation *allocation, VkDeviceSize offset, VkDeviceSize size);
 PILHANGKO_NODISCARD PILHANGKO_API pilhangko_vulkan_result PILHANGKO_CALL pilhangko_vulkan_invalidate(
     const pilhangko_vulkan *vulkan, const pilhangko_vulkan_allocation *allocation, VkDeviceSize offset, VkDeviceSize size);
+
+/* Copies bytes into a mapped allocation from an offset on and flushes them, or invalidates bytes there and copies them out. Where the driver
+ * refuses the flush, they are copied all the same; where it refuses the invalidation, none is.
+ * NULL_POINTER. NO_HANDLE. NOT_LIVE. NOT_MAPPED. OUT_OF_RANGE. CALL_FAILED. */
+PILHANGKO_NODISCARD PILHANGKO_API pilhangko_vulkan_result PILHANGKO_CALL pilhangko_vulkan_copy_to(const pilhangko_vulkan *vulkan,
+    const void *from, size_t size, const pilhangko_vulkan_allocation *allocation, VkDeviceSize offset);
+PILHANGKO_NODISCARD PILHANGKO_API pilhangko_vulkan_result PILHANGKO_CALL pilhangko_vulkan_copy_from(const pilhangko_vulkan *vulkan,
+    const pilhangko_vulkan_allocation *allocation, VkDeviceSize offset, void *to, size_t size);
 
 /* Renames a live allocation.
  * NULL_POINTER. NO_HANDLE. INVALID: the name. NOT_LIVE. HOST_OUT_OF_MEMORY. */
@@ -226,6 +235,119 @@ PILHANGKO_NODISCARD PILHANGKO_API pilhangko_status PILHANGKO_CALL pilhangko_vulk
 PILHANGKO_NODISCARD PILHANGKO_API pilhangko_status PILHANGKO_CALL pilhangko_vulkan_destroy_image(
     pilhangko_vulkan *vulkan, VkImage image, const pilhangko_vulkan_allocation *allocation);
 
+/* ---- Rings ---- */
+
+/* A ring over one buffer that the host sees: uploads that go to the next place and are freed a frame at a time (pilhangko_ring). It begins
+ * zeroed and keeps the rules of the handles. pilhangko_ring_statistics and pilhangko_ring_frame_statistics of its ring say what it holds; no
+ * other call is made of it, and no field is written. */
+typedef struct pilhangko_vulkan_ring {
+    pilhangko_ring ring;
+    VkBuffer buffer;
+    pilhangko_vulkan_allocation allocation;
+    void *mapped; /* where the host sees the buffer's first byte */
+} pilhangko_vulkan_ring;
+
+typedef struct pilhangko_vulkan_ring_settings {
+    VkDeviceSize size;        /* see pilhangko_ring_create for how large it has to be */
+    size_t frames;            /* how many may be in flight */
+    VkBufferUsageFlags usage; /* VK_BUFFER_USAGE_TRANSFER_SRC_BIT, for example */
+    pilhangko_vulkan_placement placement; /* in memory that the host sees: PILHANGKO_LOCATION_CPU_TO_GPU, for example */
+} pilhangko_vulkan_ring_settings;
+
+/* A piece: where it begins in the buffer, and where the host writes it. It belongs to the frame that was open, until that is retired. */
+typedef struct pilhangko_vulkan_ring_piece {
+    VkDeviceSize offset;
+    void *mapped;
+} pilhangko_vulkan_ring_piece;
+
+/* Makes a buffer for one queue family at a time, with memory that is mapped, and a ring over it, in an empty one.
+ * NULL_POINTER. NO_HANDLE: the binding's is empty. The causes of pilhangko_ring_create; those of pilhangko_vulkan_create_buffer.
+ * NOT_MAPPED: the host can't see memory of that location. */
+PILHANGKO_NODISCARD PILHANGKO_API pilhangko_vulkan_result PILHANGKO_CALL pilhangko_vulkan_ring_create(
+    pilhangko_vulkan *vulkan, const pilhangko_vulkan_ring_settings *settings, pilhangko_vulkan_ring *ring);
+
+/* Allocates a piece of the open frame. The buffer's first byte has any alignment that the driver wants of the buffer, so that the piece's
+ * offset counts alone.
+ * NULL_POINTER. The causes of pilhangko_ring_allocate. */
+PILHANGKO_NODISCARD PILHANGKO_API pilhangko_status PILHANGKO_CALL pilhangko_vulkan_ring_allocate(
+    pilhangko_vulkan_ring *ring, VkDeviceSize size, VkDeviceSize alignment, pilhangko_vulkan_ring_piece *piece);
+
+/* Makes what the host wrote to the open frame's pieces visible to the device, by pilhangko_vulkan_flush: at most two ranges. Call it before
+ * the frame is submitted. Coherent memory asks the driver nothing.
+ * NULL_POINTER. NO_HANDLE: the binding's or the ring's. NOT_LIVE: the ring is another binding's. CALL_FAILED. */
+PILHANGKO_NODISCARD PILHANGKO_API pilhangko_vulkan_result PILHANGKO_CALL pilhangko_vulkan_ring_flush(
+    const pilhangko_vulkan *vulkan, const pilhangko_vulkan_ring *ring);
+
+/* Ends the open frame, and frees the pieces of a frame and of all older ones.
+ * NULL_POINTER. The causes of pilhangko_ring_end_frame, and of pilhangko_ring_retire. */
+PILHANGKO_NODISCARD PILHANGKO_API pilhangko_status PILHANGKO_CALL pilhangko_vulkan_ring_end_frame(
+    pilhangko_vulkan_ring *ring, uint64_t *frame);
+PILHANGKO_NODISCARD PILHANGKO_API pilhangko_status PILHANGKO_CALL pilhangko_vulkan_ring_retire(pilhangko_vulkan_ring *ring, uint64_t frame);
+
+/* Destroys the buffer, frees its memory and leaves the ring empty. The device has finished with all its frames before.
+ * NULL_POINTER. NO_HANDLE: the binding's or the ring's. NOT_LIVE: the ring is another binding's. */
+PILHANGKO_NODISCARD PILHANGKO_API pilhangko_status PILHANGKO_CALL pilhangko_vulkan_ring_destroy(
+    pilhangko_vulkan *vulkan, pilhangko_vulkan_ring *ring);
+
+/* ---- Transient resources: buffers and images of a frame that share memory (c/pilhangko_vulkan_transient.c) ---- */
+
+/* A buffer or an image, and the passes in which it is alive, both included. */
+typedef struct pilhangko_vulkan_transient_resource {
+    const VkBufferCreateInfo *buffer_info; /* of a buffer, else NULL */
+    const VkImageCreateInfo *image_info;   /* of an image, else NULL */
+    uint64_t first_pass;
+    uint64_t last_pass;
+} pilhangko_vulkan_transient_resource;
+
+/* A buffer or an image that was made: the other one is null. It lies at planned.size bytes from offset on in its set's allocation. */
+typedef struct pilhangko_vulkan_transient_place {
+    VkBuffer buffer;
+    VkImage image;
+    size_t set;
+    VkDeviceSize offset;
+    pilhangko_plan_resource planned; /* what the driver asked for it */
+} pilhangko_vulkan_transient_place;
+
+/* Resources that share one allocation. */
+typedef struct pilhangko_vulkan_transient_set {
+    pilhangko_vulkan_allocation allocation;
+    pilhangko_heap_plan plan;
+    VkDeviceSize unshared; /* the sum of their sizes */
+    bool dedicated;        /* whether it is one resource for which the driver requires memory of its own */
+} pilhangko_vulkan_transient_set;
+
+/* It begins zeroed. create_transient fills it, with places in the order of the resources; destroy_transient leaves it zeroed. */
+typedef struct pilhangko_vulkan_transient {
+    pilhangko_vulkan_transient_place *places;
+    size_t place_count;
+    pilhangko_vulkan_transient_set *sets;
+    size_t set_count;
+} pilhangko_vulkan_transient;
+
+/* Makes buffers and images, plans those that can share a memory type together (pilhangko_plan), and binds each set to one allocation. In the
+ * order of the resources each one joins the first set with which it shares a memory type that has what the location needs, or begins one;
+ * one for which the driver requires memory of its own is a set by itself. What was made is undone where something fails. Buffers and images
+ * that are sparse or disjoint, and resources with two infos or none, or whose last pass comes before the first, are INVALID. name is each
+ * allocation's; NULL for none. Where count is 0, resources may be NULL.
+ *
+ * What a resource holds is undefined when its first pass begins: it takes bytes over from others. Between these and it goes a barrier
+ * (transient_reuses), and an image begins in VK_IMAGE_LAYOUT_UNDEFINED.
+ * NULL_POINTER. NO_HANDLE. IN_USE: transient isn't zeroed. INVALID. HOST_OUT_OF_MEMORY: the binding's own. CALL_FAILED: vkCreate... Then the
+ * causes of pilhangko_plan and of pilhangko_vulkan_allocate. CALL_FAILED: vkBind... */
+PILHANGKO_NODISCARD PILHANGKO_API pilhangko_vulkan_result PILHANGKO_CALL pilhangko_vulkan_create_transient(pilhangko_vulkan *vulkan,
+    const pilhangko_vulkan_transient_resource *resources, size_t count, pilhangko_location location, const char *name,
+    pilhangko_vulkan_transient *transient);
+
+/* The places, by their indices, whose bytes the one at an index takes over, as with pilhangko_plan_reuses.
+ * NULL_POINTER. INVALID: no place has that index. HOST_OUT_OF_MEMORY. */
+PILHANGKO_NODISCARD PILHANGKO_API pilhangko_status PILHANGKO_CALL pilhangko_vulkan_transient_reuses(
+    const pilhangko_vulkan_transient *transient, size_t index, size_t *reused, size_t room, size_t *reused_count);
+
+/* Destroys the buffers and images, and frees their allocations. Where one of these isn't live, nothing happens.
+ * NULL_POINTER. NO_HANDLE. NOT_LIVE. */
+PILHANGKO_NODISCARD PILHANGKO_API pilhangko_status PILHANGKO_CALL pilhangko_vulkan_destroy_transient(
+    pilhangko_vulkan *vulkan, pilhangko_vulkan_transient *transient);
+
 /* ---- Budgets ---- */
 
 /* A memory heap. usage and budget are the driver's, of the whole process; they are 0 where has_budget is false. */
@@ -259,8 +381,33 @@ PILHANGKO_NODISCARD PILHANGKO_API pilhangko_status PILHANGKO_CALL pilhangko_vulk
 
 /* The allocator behind the binding, for each call of pilhangko.h that takes a `const pilhangko_allocator *`: statistics by memory type,
  * blocks and their pieces with names, the report as JSON, and the texts of leaks. NULL where vulkan is NULL or empty. It lives as long as
- * the binding; calls on both never overlap. */
+ * the binding; calls on both never overlap: where other threads use the binding, they stand between lock and unlock. */
 PILHANGKO_NODISCARD PILHANGKO_API const pilhangko_allocator *PILHANGKO_CALL pilhangko_vulkan_allocator(const pilhangko_vulkan *vulkan);
+
+/* Keeps the other threads' calls of this binding waiting until unlock, for calls on the allocator behind it. Between them this thread calls
+ * nothing of the binding itself. Without effect where the binding is externally_synchronized.
+ * NULL_POINTER. NO_HANDLE. */
+PILHANGKO_API pilhangko_status PILHANGKO_CALL pilhangko_vulkan_lock(const pilhangko_vulkan *vulkan);
+
+/* Lets them go on, on the thread that called lock.
+ * NULL_POINTER. NO_HANDLE. */
+PILHANGKO_API pilhangko_status PILHANGKO_CALL pilhangko_vulkan_unlock(const pilhangko_vulkan *vulkan);
+
+/* ---- The device ---- */
+
+/* What a binding was made over. The pointers are the binding's, and live as long as it. */
+typedef struct pilhangko_vulkan_device {
+    VkPhysicalDevice physical_device;
+    VkDevice device;
+    const pilhangko_vulkan_functions *functions;
+    const VkAllocationCallbacks *allocation_callbacks; /* NULL for none */
+    uint32_t api_version;
+} pilhangko_vulkan_device;
+
+/* What a binding was made over, for calls of the driver beside it.
+ * NULL_POINTER. NO_HANDLE. */
+PILHANGKO_NODISCARD PILHANGKO_API pilhangko_status PILHANGKO_CALL pilhangko_vulkan_read_device(
+    const pilhangko_vulkan *vulkan, pilhangko_vulkan_device *read);
 
 /* ---- Captures ---- */
 

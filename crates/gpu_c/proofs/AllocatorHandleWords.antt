@@ -11,11 +11,13 @@ use denote.Shadow.{makes_shadow}
 use denote.Struct.Struct.{Struct}
 use denote.Struct.Owning.{shape}
 use Rattle.gpu_c.specs.contracts.allocator_handle.AllocatorHandle as handle
-use Rattle.gpu_machine.specs.contracts.machine.Machine as kept
+use Rattle.gpu_c.specs.contracts.mapped_memory.MappedMemory as memory
+use Rattle.gpu_c.specs.contracts.mapped_memory.MappedMemoryPartialEq.TheImpl as memory_eq
+use Rattle.gpu_machine.specs.contracts.vulkan.machine.Machine as kept
 
 -- what lies behind a handle
 abbrev pub Behind : RattleType
-Behind = kept.the_row
+Behind = kept.the_row memory.the_row memory_eq.ghosts
 
 abbrev pub Hand : RattleType
 Hand = handle.the_row

@@ -1,22 +1,19 @@
 -- With which statuses a request that is served is refused before the driver is asked.
-use Rattle.std.proofs.Common.{◌≡◌, ℕ, ◌<◌, ◌==◌, ◌&&◌, Bool, true, false, not, if◌then◌else◌, List, [], ◌∷◌, Option, Some, None, Ok, Err, refl, sym, subst, arith, ⊎_elim, inl, inr}
+use Rattle.std.proofs.Common.{◌≡◌, ℕ, ◌<◌, ◌==◌, ◌&&◌, Bool, true, false, not, if◌then◌else◌, List, [], ◌∷◌, Option, Some, None, Err, refl, sym, subst, arith, ⊎_elim, inl, inr}
 use Rattle.std.specs.Int.{is_power_of_two}
 use Rattle.gpu_values.specs.Refusal as refusals
-use Rattle.gpu_values.specs.Refusal.{Refusal, refusal_of, refusal_in}
+use Rattle.gpu_values.specs.Refusal.{Refusal, refusal_of}
 use Rattle.gpu_values.specs.declared.error.AllocationError.{AllocationError}
 use Rattle.gpu_device.specs.declared.vulkan.types.MemoryRequirements.{MemoryRequirements}
-use Rattle.gpu_device.specs.declared.vulkan.types.DeviceMemory.{DeviceMemory}
-use Rattle.gpu_pool.specs.Allocate as pools
-use Rattle.gpu_pool.specs.Allocate.{Environment, NothingMet, NoHostMemory, Answered}
+use Rattle.gpu_pool.specs.Begin as pools
+use Rattle.gpu_pool.specs.Allocate.{NeedsNewBlock}
+use Rattle.gpu_pool.specs.RequestState.{pool_of}
+use Rattle.gpu_pool.specs.declared.requests.Awaited.{Awaited}
 use Rattle.gpu_vulkan.specs.Allocate.{is_valid}
-use Rattle.gpu_vulkan.specs.Attempt.{Answer, IsMet, AnyQuestion, request_in, unseen}
-use Rattle.gpu_vulkan.specs.Types.{kinds_of_device}
 use Rattle.gpu_vulkan.specs.declared.describe.AllocationCreateDesc.{AllocationCreateDesc}
-use Rattle.gpu_machine.specs.Begin.{Begins, BeginsIn, BeginsBy, Finds, Serves, Follows, Denies}
-use Rattle.gpu_machine.specs.Description.{description_of}
-use Rattle.gpu_machine.specs.State.{State}
-use Rattle.gpu_machine.specs.declared.awaited.Awaited.{Awaited}
-use Rattle.gpu_c.specs.Allocator.{refusal_status, Says}
+use Rattle.gpu_machine.specs.VulkanBegin.{request_in, IsTooLarge, IsWithinHeap, Tries, Begins, BeginsIn, BeginsBy, BeginsAt, MakesAttempts, Follows}
+use Rattle.gpu_machine.specs.VulkanDescription.{description_of}
+use Rattle.gpu_c.specs.Allocator.{State, refusal_status, Says}
 use Rattle.gpu_c.specs.Status as status
 use Rattle.gpu_c.specs.Status.{IsOneOf}
 use Rattle.gpu_c.specs.declared.allocator_values.AllocatorRequest.{AllocatorRequest}
@@ -27,10 +24,6 @@ Told r = IsOneOf (refusal_status r) (status.no_memory_type ∷ status.out_of_mem
 abbrev TheOption : Option Refusal → Type 0
 TheOption None = ⊥
 TheOption (Some r) = Told r
-
-abbrev TheAnswer : Answer → Type 0
-TheAnswer (Ok p) = ⊥
-TheAnswer (Err r) = Told r
 
 no_type_told : Told refusals.no_compatible_memory_type_found
 no_type_told = inl refl
@@ -49,38 +42,43 @@ limited true true r e = absurd (grind (arith, e))
 limited true false r e = subst TheOption e budget_told
 limited false y r e = subst TheOption e short_told
 
-module _ (old new : State) (d : AllocationCreateDesc) where
-  met_told : (t : ℕ) (host : Bool) (met : Environment DeviceMemory) (r : Refusal) → IsMet (record { host = host; asked = None }) met
-      → pools.Serves (kinds_of_device old.setup.properties) AnyQuestion (request_in t d) (unseen old.setup old.budgets old.slots) met (Err r) (unseen old.setup old.budgets old.slots) → Told r
-  met_told t host NothingMet r m h = limited _ _ r h.0.1.limits
-  met_told t host NoHostMemory r m h = subst Told (sym h.0) host_told
-  met_told t host (Answered size answer) r m h = absurd (grind (arith, m.1.1))
+module _ (old : State) (d : AllocationCreateDesc) (closed : old.requests.awaited ≡ None) where
+  within_told : (t : ℕ) (is_second : Bool) (e : AllocationError) (new : State) → IsWithinHeap old t d is_second (Err e) new → Told (refusal_of e)
+  within_told t is_second e new within =
+      let begun : pools.BeginsIn (request_in t d) None old.requests (Err e) new.requests =
+      subst (λ (o : Option Awaited). pools.BeginsIn (request_in t d) o old.requests (Err e) new.requests) closed within.begins in
+      ⊎_elim (λ starved. subst Told (sym starved) host_told)
+      (λ (much : (size : ℕ) × NeedsNewBlock old.requests.kinds pools.NoneAsked (request_in t d) (pool_of tt old.requests) size (Some (refusal_of e))). limited _ _ (refusal_of e) much.1.limits)
+      begun.0
 
-  denied_told : (t : ℕ) (r : Refusal) → Denies old t d r → Told r
-  denied_told t r h = ⊎_elim (λ a. subst TheAnswer (sym a.answer_is) short_told) (λ a. met_told t h.0 a.allocates.met r a.allocates.is_met a.allocates.serves) h.1
+  tried_told : (t : ℕ) (is_second : Bool) (e : AllocationError) (new : State) → Tries old t d is_second (Err e) new → Told (refusal_of e)
+  tried_told t is_second e new h =
+      ⊎_elim (λ (large : IsTooLarge old t d (Err e) new). subst TheOption (sym large.refused.0) short_told)
+      (λ (within : IsWithinHeap old t d is_second (Err e) new). within_told t is_second e new within)
+      h
 
-  follows_told : (o : Option ℕ) (r : Refusal) (e : AllocationError) → Told r → Follows old d o r (Err e) new → Told (refusal_of e)
-  follows_told None r e told h = subst TheOption (sym h.0) told
-  follows_told (Some t) r e told h = denied_told t (refusal_of e) h.0
+  follows_told : (o : Option ℕ) (r : Refusal) (e : AllocationError) (new : State) → Told r → Follows old d o r (Err e) new → Told (refusal_of e)
+  follows_told None r e new told h = subst TheOption (sym h.0) told
+  follows_told (Some t) r e new told h = tried_told t true e new h
 
-  serves_told : (t : ℕ) (e : AllocationError) → Serves old t d (Err e) new → Told (refusal_of e)
-  serves_told t e h = ⊎_elim (λ a. absurd (grind (arith, a.0))) (λ b. follows_told _ b.refusal e (denied_told t b.refusal b.denies) b.follows) h
+  attempts_told : (t : ℕ) (e : AllocationError) (new : State) → MakesAttempts old t d (Err e) new → Told (refusal_of e)
+  attempts_told t e new h = ⊎_elim (λ a. absurd (grind (arith, a.0))) (λ b. follows_told _ (refusal_of b.cause) e new (tried_told t false b.cause old b.tries) b.follows) h
 
-  finds_told : (o : Option ℕ) (e : AllocationError) → Finds old d o (Err e) new → Told (refusal_of e)
-  finds_told None e h = subst TheOption (sym h.0) no_type_told
-  finds_told (Some t) e h = serves_told t e h
+  at_told : (o : Option ℕ) (e : AllocationError) (new : State) → BeginsAt o old d (Err e) new → Told (refusal_of e)
+  at_told None e new h = subst TheOption (sym h.0) no_type_told
+  at_told (Some t) e new h = attempts_told t e new h
 
-  by_told : (valid : Bool) (e : AllocationError) → valid ≡ true → BeginsBy old d valid (Err e) new → Told (refusal_of e)
-  by_told true e is h = finds_told _ e h
-  by_told false e is h = absurd (grind (arith, is))
+  by_told : (valid : Bool) (e : AllocationError) (new : State) → valid ≡ true → BeginsBy valid old d (Err e) new → Told (refusal_of e)
+  by_told true e new is h = at_told _ e new h
+  by_told false e new is h = absurd (grind (arith, is))
 
-  in_told : (o : Option Awaited) (e : AllocationError) → o ≡ None → is_valid d ≡ true → BeginsIn o old d (Err e) new → Told (refusal_of e)
-  in_told None e closed is h = by_told _ e is h
-  in_told (Some a) e closed is h = absurd (grind (arith, closed))
+  in_told : (o : Option Awaited) (e : AllocationError) (new : State) → o ≡ None → is_valid d ≡ true → BeginsIn o old d (Err e) new → Told (refusal_of e)
+  in_told None e new shut is h = by_told _ e new is h
+  in_told (Some a) e new shut is h = absurd (grind (arith, shut))
 
-  -- the refusals of a request that is served
-  pub begins_told : (e : AllocationError) → old.awaited ≡ None → is_valid d ≡ true → Begins old d (Err e) new → Told (refusal_of e)
-  begins_told e closed is h = in_told old.awaited e closed is h
+-- the refusals of a request that is served
+pub begins_told : (old new : State) (d : AllocationCreateDesc) (e : AllocationError) → old.requests.awaited ≡ None → is_valid d ≡ true → Begins old d (Err e) new → Told (refusal_of e)
+begins_told old new d e closed is h = in_told old d closed old.requests.awaited e new closed is h
 
 valid_by : (size : ℕ) (aligned : Bool) → 0 < size → aligned ≡ true → (not (size == 0) && aligned) ≡ true
 valid_by size aligned s a = grind (arith, s, a)

@@ -5,7 +5,7 @@ use denote.Builtin.{bool, u64, usize}
 use Rattle.core.specs.declared.cmp.PartialEq as eq
 use Rattle.core.specs.contracts.option.Option as Option
 use Rattle.std.proofs.Crossing as heap
-use Rattle.std.proofs.Crossing.{Vec-send, Box-send}
+use Rattle.std.proofs.Crossing.{Vec-send, Box-send, Deque-send}
 use Rattle.std_alloc.specs.contracts.string.String as String
 use Rattle.std_heap.specs.contracts.Global as Heap
 use Rattle.std_heap.specs.contracts.GlobalAllocator.TheImpl.{ghosts}
@@ -37,8 +37,8 @@ use Rattle.gpu_core.specs.contracts.need.PendingBlock as PendingBlock
 use Rattle.gpu_core.specs.contracts.need.NeedBlock as NeedBlock
 use Rattle.gpu_core.specs.contracts.memory_type.MemoryType as MemoryType
 use Rattle.gpu_values.specs.contracts.allocation_sizes.AllocationSizes as AllocationSizes
-use Rattle.gpu_device.specs.contracts.vulkan.types.DeviceMemory as DeviceMemory
-use Rattle.gpu_device.specs.contracts.vulkan.types.DeviceMemoryPartialEq.TheImpl as memory_eq
+use Rattle.gpu_c.specs.contracts.mapped_memory.MappedMemory as MappedMemory
+use Rattle.gpu_c.specs.contracts.mapped_memory.MappedMemoryPartialEq.TheImpl as memory_eq
 use Rattle.gpu_device.specs.contracts.vulkan.types.AllocationScheme as AllocationScheme
 use Rattle.gpu_device.specs.contracts.vulkan.types.MemoryRequirements as MemoryRequirements
 use Rattle.gpu_values.specs.contracts.memory_location.MemoryLocation as MemoryLocation
@@ -47,9 +47,13 @@ use Rattle.gpu_device.specs.contracts.vulkan.types.MemoryTypeInfo as MemoryTypeI
 use Rattle.gpu_core.specs.contracts.memory_types.MemoryTypes as MemoryTypes
 use Rattle.gpu_vulkan.specs.contracts.setup.Settings as Settings
 use Rattle.gpu_vulkan.specs.contracts.setup.Setup as Setup
-use Rattle.gpu_machine.specs.contracts.awaited.Awaited as Awaited
-use Rattle.gpu_machine.specs.contracts.description.Description as Description
-use Rattle.gpu_machine.specs.contracts.machine.Machine as Machine
+use Rattle.gpu_pool.specs.contracts.requests.Awaited as Awaited
+use Rattle.gpu_pool.specs.contracts.requests.Requests as Requests
+use Rattle.gpu_machine.specs.contracts.vulkan.asking.Asking as Asking
+use Rattle.gpu_machine.specs.contracts.vulkan.description.Description as Description
+use Rattle.gpu_machine.specs.contracts.vulkan.machine.Machine as Machine
+use Rattle.gpu_ring.specs.contracts.ring.FrameStatistics as FrameStatistics
+use Rattle.gpu_ring.specs.contracts.ring.Ring as Ring
 use Rattle.gpu_c.specs.contracts.memory_type.AwaitingType as AwaitingType
 use Rattle.gpu_c.specs.contracts.virtual_block.VirtualBlock as VirtualBlock
 
@@ -220,25 +224,63 @@ description_send =
       leaving = λ k d w. tt;
     }
 
-awaited_send : IsSend Awaited.the_row
-awaited_send = let d = description_send in let n = need_send in search sendable depth 20
+asking_send : IsSend Asking.the_row
+asking_send = let d = description_send in let b = bool_send in search sendable depth 20
 
-memory_send : IsSend DeviceMemory.the_row
-memory_send = search sendable depth 20
+asking_option_send : IsSend (Option.the_row Asking.the_row)
+asking_option_send = let a = asking_send in search sendable depth 20
+
+awaited_send : IsSend Awaited.the_row
+awaited_send = let n = need_send in let u = place_send in search sendable depth 20
 
 awaiting_answer_send : IsSend (Option.the_row Awaited.the_row)
 awaiting_answer_send = let a = awaited_send in search sendable depth 20
 
-types_of : ((e : eq.Ghosts DeviceMemory.the_row.Denot) → IsSend (MemoryType.the_row DeviceMemory.the_row e)) → (e : eq.Ghosts DeviceMemory.the_row.Denot) → IsSend (MemoryTypes.the_row DeviceMemory.the_row e)
+memory_send : IsSend MappedMemory.the_row
+memory_send = search sendable depth 20
+
+types_of : ((e : eq.Ghosts MappedMemory.the_row.Denot) → IsSend (MemoryType.the_row MappedMemory.the_row e)) → (e : eq.Ghosts MappedMemory.the_row.Denot) → IsSend (MemoryTypes.the_row MappedMemory.the_row e)
 types_of t e = let m = t e in search (sendable, Vec-send) depth 20
 
-machine_of : ((e : eq.Ghosts DeviceMemory.the_row.Denot) → IsSend (MemoryType.the_row DeviceMemory.the_row e)) → IsSend Machine.the_row
-machine_of t =
-    let s = setup_send in let a = awaiting_answer_send in let g = heap.send in
+requests_of : ((e : eq.Ghosts MappedMemory.the_row.Denot) → IsSend (MemoryType.the_row MappedMemory.the_row e)) → (e : eq.Ghosts MappedMemory.the_row.Denot) → IsSend (Requests.the_row MappedMemory.the_row e)
+requests_of t e =
+    let z = sizes_send in let a = awaiting_answer_send in
     record {
-      owned = λ d vs x. ((λ vss. (tt, (g.owned _ vss.0, (s.owned x.0.setup vss.1.0, ((types_of t memory_eq.ghosts).owned x.0.types vss.1.1.0, (a.owned x.0.awaited vss.1.1.1.0, tt)))))), tt);
+      owned = λ d vs x. ((λ vss. (tt, (z.owned x.0.sizes vss.0, ((types_of t e).owned x.0.types vss.1.0, (a.owned x.0.awaited vss.1.1.0, tt))))), tt);
       leaving = λ k d w. tt;
     }
 
-pub machine_send : IsSend Machine.the_row
-machine_send = machine_of (λ e. type_send DeviceMemory.the_row e memory_send)
+machine_of : ((e : eq.Ghosts MappedMemory.the_row.Denot) → IsSend (MemoryType.the_row MappedMemory.the_row e)) → IsSend (Machine.the_row MappedMemory.the_row memory_eq.ghosts)
+machine_of t =
+    let s = setup_send in let a = asking_option_send in let g = heap.send in
+    record {
+      owned = λ d vs x. (
+        (λ vss. (tt, (g.owned _ vss.0, (s.owned x.0.setup vss.1.0, ((requests_of t memory_eq.ghosts).owned x.0.requests vss.1.1.0, (a.owned x.0.asking vss.1.1.1.0, tt)))))),
+        tt,
+      );
+      leaving = λ k d w. tt;
+    }
+
+pub machine_send : IsSend (Machine.the_row MappedMemory.the_row memory_eq.ghosts)
+machine_send = machine_of (λ e. type_send MappedMemory.the_row e memory_send)
+
+-- ---- a ring
+frame_send : IsSend FrameStatistics.the_row
+frame_send = search sendable depth 20
+
+pub ring_send : IsSend Ring.the_row
+ring_send =
+    let u = key_send in let q = Deque-send FrameStatistics.the_row frame_send in let f = frame_send in
+    record {
+      owned = λ d vs x. (
+        (λ vss. (
+          tt,
+          (
+            u.owned x.0.size vss.0,
+            (u.owned x.0.tail vss.1.0, (u.owned x.0.taken vss.1.1.0, (u.owned x.0.first vss.1.1.1.0, (q.owned x.0.frames vss.1.1.1.1.0, (f.owned x.0.current vss.1.1.1.1.1.0, tt))))),
+          ),
+        )),
+        tt,
+      );
+      leaving = λ k d w. tt;
+    }

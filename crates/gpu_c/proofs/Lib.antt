@@ -9,6 +9,8 @@ mod MemoryTypeHandleWords
 mod AllocatorLaws
 mod AllocatorRefusals
 mod AllocatorHandleWords
+mod RingHandleWords
 mod Crosses
 mod HandleCrosses
 mod AllocatorVisits
+mod ToldPlans

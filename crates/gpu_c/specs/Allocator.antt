@@ -1,5 +1,5 @@
 -- An allocator of Vulkan's memory behind a handle: what C says and is told, in the words of the machine.
-use Rattle.std.specs.Prelude.{◌≡◌, ℕ, ℤ, ◌==◌, if◌then◌else◌, not, nat_lt, Bool, true, false, List, [], length, map, All, Option, Some, None, IsSome, Result, Ok, Err}
+use Rattle.std.specs.Prelude.{◌≡◌, ℕ, ℤ, ◌==◌, ◌&&◌, if◌then◌else◌, not, nat_lt, Bool, true, false, List, [], length, map, All, Option, Some, None, IsSome, Result, Ok, Err}
 use Rattle.std.specs.Option.{is_some, unwrap_or}
 use Rattle.std.specs.List.{list_any}
 use Rattle.std.specs.Int.{is_power_of_two}
@@ -15,25 +15,28 @@ use Rattle.gpu_core.specs.declared.piece.Piece.{Piece}
 use Rattle.gpu_device.specs.Properties.{Properties}
 use Rattle.gpu_device.specs.declared.vulkan.types.AllocationScheme.{AllocationScheme}
 use Rattle.gpu_device.specs.declared.vulkan.types.AllocationScheme.TheVariants as schemes
-use Rattle.gpu_device.specs.declared.vulkan.types.DeviceMemory.{DeviceMemory}
 use Rattle.gpu_device.specs.declared.vulkan.types.MemoryHeap.{MemoryHeap}
 use Rattle.gpu_device.specs.declared.vulkan.types.MemoryTypeInfo.{MemoryTypeInfo}
-use Rattle.gpu_vulkan.specs.Live as machine_live
+use Rattle.gpu_pool.specs.Idle.{RenamesIdle}
+use Rattle.gpu_pool.specs.Live as machine_live
 use Rattle.gpu_vulkan.specs.Setup.{properties_told, lacks_heap}
 use Rattle.gpu_vulkan.specs.declared.describe.AllocationCreateDesc.{AllocationCreateDesc}
-use Rattle.gpu_machine.specs.Begin.{Begins, Grants, Declines}
-use Rattle.gpu_machine.specs.Calls.{Frees, Renames}
-use Rattle.gpu_machine.specs.Description.{Description, description_of}
-use Rattle.gpu_machine.specs.State.{State}
-use Rattle.gpu_machine.specs.declared.answer.Allocated.{Allocated}
-use Rattle.gpu_machine.specs.declared.answer.MemoryBack.{MemoryBack}
-use Rattle.gpu_machine.specs.declared.answer.Progress.{Progress}
-use Rattle.gpu_machine.specs.declared.answer.Progress.TheVariants as progress
-use Rattle.gpu_machine.specs.declared.answer.Question.{Question}
+use Rattle.gpu_machine.specs.VulkanBegin.{Begins, Grants, Declines}
+use Rattle.gpu_machine.specs.VulkanCalls.{Frees}
+use Rattle.gpu_machine.specs.VulkanDescription.{Description, description_of}
+use Rattle.gpu_machine.specs.VulkanState as machine_state
+use Rattle.gpu_machine.specs.declared.vulkan.answer.Allocated.{Allocated}
+use Rattle.gpu_machine.specs.declared.vulkan.answer.LiveBlock.{LiveBlock}
+use Rattle.gpu_machine.specs.declared.vulkan.answer.MemoryBack.{MemoryBack}
+use Rattle.gpu_machine.specs.declared.vulkan.answer.Progress.{Progress}
+use Rattle.gpu_machine.specs.declared.vulkan.answer.Progress.TheVariants as progress
+use Rattle.gpu_machine.specs.declared.vulkan.answer.Question.{Question}
 use Rattle.gpu_c.specs.MemoryType.{no_memory_piece}
 use Rattle.gpu_c.specs.Request.{IsServed, linear}
 use Rattle.gpu_c.specs.Status as status
+use Rattle.gpu_c.specs.declared.mapped_memory.MappedMemory.{MappedMemory}
 use Rattle.gpu_c.specs.declared.memory_type_values.MemoryPiece.{MemoryPiece}
+use Rattle.gpu_c.specs.declared.allocator_values.AllocatorBlock.{AllocatorBlock}
 use Rattle.gpu_c.specs.declared.allocator_values.AllocatorBudget.{AllocatorBudget}
 use Rattle.gpu_c.specs.declared.allocator_values.AllocatorMemory.{AllocatorMemory}
 use Rattle.gpu_c.specs.declared.allocator_values.AllocatorPiece.{AllocatorPiece}
@@ -43,6 +46,14 @@ use Rattle.gpu_c.specs.declared.allocator_values.AllocatorRequest.{AllocatorRequ
 use Rattle.gpu_c.specs.declared.allocator_values.AllocatorSettings.{AllocatorSettings}
 use Rattle.gpu_c.specs.declared.allocator_values.DeviceHeap.{DeviceHeap}
 use Rattle.gpu_c.specs.declared.allocator_values.DeviceMemoryType.{DeviceMemoryType}
+
+-- a machine whose blocks are known by the driver's memory and the address at which it is mapped
+abbrev pub State : Type 0
+State = machine_state.State MappedMemory
+
+-- two blocks are the same: their memory is, and where it is mapped
+abbrev pub is_same_block : MappedMemory → MappedMemory → Bool
+is_same_block a b = (a.memory == b.memory) && (a.address == b.address)
 
 -- ---- made from what is told of a device
 
@@ -69,12 +80,12 @@ no_lines = record { log_memory_information = false; log_leaks_on_shutdown = fals
 
 -- an allocator without blocks, budgets and an open question, over the device that was told
 pub record IsFresh (types : List DeviceMemoryType) (heaps : List DeviceHeap) (s : AllocatorSettings) (new : State) : Type 0 where
-  pub setup : new.setup ≡ record { properties = device_told types heaps s; sizes = block_sizes s; debug = no_lines; device_address = s.device_address }
-  pub types_there : length new.slots ≡ length types
-  pub empty : All (λ slots. slots ≡ []) new.slots
-  pub unbounded : All (λ b. b ≡ None) new.budgets
-  pub bounds_there : length new.budgets ≡ length types
-  pub closed : new.awaited ≡ None
+  pub setup : new.setup ≡ record { properties = device_told types heaps s; sizes = block_sizes s; debug = no_lines; device_address = false }
+  pub types_there : length new.requests.slots ≡ length types
+  pub empty : All (λ slots. slots ≡ []) new.requests.slots
+  pub unbounded : All (λ b. b ≡ None) new.requests.budgets
+  pub bounds_there : length new.requests.budgets ≡ length types
+  pub closed : (new.requests.awaited ≡ None) × (new.asking ≡ None)
 
 -- ---- statuses
 
@@ -131,53 +142,45 @@ SaysNothing r name = (k : Description) → Says r name k → ⊥
 
 -- ---- what C is told
 
-abbrev pub piece_told : Piece DeviceMemory → MemoryPiece
-piece_told p = record { slot = p.slot; number = non_zero_u64_get p.chunk_id; offset = p.offset; size = p.size; block = p.handle.0 }
+abbrev pub piece_told : Piece MappedMemory → MemoryPiece
+piece_told p = record { slot = p.slot; number = non_zero_u64_get p.chunk_id; offset = p.offset; size = p.size; block = p.handle.memory }
 
-abbrev pub allocated_told : Allocated → AllocatorPiece
-allocated_told a = record { memory_type = a.memory_type; mapped = a.mapped; piece = piece_told a.piece }
+abbrev pub allocated_told : Allocated MappedMemory → AllocatorPiece
+allocated_told a = record { memory_type = a.memory_type; address = a.piece.handle.address; piece = piece_told a.piece }
+
+-- C names this piece
+pub record Names (named : AllocatorPiece) (p : Piece MappedMemory) : Type 0 where
+  pub piece : piece_told p ≡ named.piece
+  pub address : p.handle.address ≡ named.address
 
 abbrev pub no_allocator_piece : AllocatorPiece
-no_allocator_piece = record { memory_type = 0; mapped = false; piece = no_memory_piece }
-
-abbrev pub scheme_number : AllocationScheme → ℕ
-scheme_number schemes.GpuAllocatorManaged = 1
-scheme_number (schemes.DedicatedBuffer buffer) = 2
-scheme_number (schemes.DedicatedImage image) = 3
-
--- the buffer or image that memory is for alone, else 0
-abbrev pub resource_of : AllocationScheme → ℕ
-resource_of schemes.GpuAllocatorManaged = 0
-resource_of (schemes.DedicatedBuffer buffer) = buffer.0
-resource_of (schemes.DedicatedImage image) = image.0
+no_allocator_piece = record { memory_type = 0; address = 0; piece = no_memory_piece }
 
 abbrev pub question_told : Question → AllocatorQuestion
-question_told q = record {
-  size = q.info.size;
-  memory_type = q.info.memory_type_index;
-  scheme = scheme_number q.info.scheme;
-  resource = resource_of q.info.scheme;
-  device_address = q.info.device_address;
-  mapped = q.mapped;
-}
+question_told q = record { size = q.block.size; memory_type = q.block.memory_type; dedicated = q.block.dedicated; mapped = q.mapped }
 
 abbrev pub no_question : AllocatorQuestion
-no_question = record { size = 0; memory_type = 0; scheme = 0; resource = 0; device_address = false; mapped = false }
+no_question = record { size = 0; memory_type = 0; dedicated = false; mapped = false }
 
 -- what a request leads to: 1 is a piece, 2 a question
-abbrev pub progress_told : Progress → AllocatorProgress
+abbrev pub progress_told : Progress MappedMemory → AllocatorProgress
 progress_told (progress.Piece a) = record { kind = 1; status = status.ok; piece = allocated_told a; question = no_question }
 progress_told (progress.Question q) = record { kind = 2; status = status.ok; piece = no_allocator_piece; question = question_told q }
 
 -- the same once the driver has refused: 3 is the request's refusal
-abbrev pub outcome_told : Result Progress AllocationError → AllocatorProgress
+abbrev pub outcome_told : Result (Progress MappedMemory) AllocationError → AllocatorProgress
 outcome_told (Ok p) = progress_told p
 outcome_told (Err e) = record { kind = 3; status = refusal_status (refusal_of e); piece = no_allocator_piece; question = no_question }
 
 -- memory that goes back, or none
-abbrev pub memory_told : Option MemoryBack → AllocatorMemory
-memory_told None = record { exists = false; mapped = false; memory = 0 }
-memory_told (Some b) = record { exists = true; mapped = b.mapped; memory = b.memory.0 }
+abbrev pub memory_told : Option (MemoryBack MappedMemory) → AllocatorMemory
+memory_told None = record { exists = false; mapped = false; memory = 0; address = 0 }
+memory_told (Some b) = record { exists = true; mapped = b.mapped; memory = b.handle.memory; address = b.handle.address }
+
+-- a live block, or none
+abbrev pub block_told : Option (LiveBlock MappedMemory) → AllocatorBlock
+block_told None = record { exists = false; mapped = false; shared = false; memory = 0; address = 0; size = 0 }
+block_told (Some b) = record { exists = true; mapped = b.mapped; shared = b.shared; memory = b.handle.memory; address = b.handle.address; size = b.size }
 
 abbrev pub budget_told : Option ℕ → AllocatorBudget
 budget_told b = record { exists = is_some b; bytes = unwrap_or b 0 }
@@ -186,33 +189,33 @@ budget_told b = record { exists = is_some b; bytes = unwrap_or b 0 }
 
 -- the request is begun: it leads to a piece or to a question
 pub record IsBegun (old : State) (r : AllocatorRequest) (name : List ℕ) (out : AllocatorProgress) (new : State) : Type 0 where
-  pub idle : old.awaited ≡ None
+  pub idle : old.requests.awaited ≡ None
   pub desc : AllocationCreateDesc
   pub says : Says r name (description_of desc)
-  pub answer : Progress
+  pub answer : Progress MappedMemory
   pub told : out ≡ progress_told answer
   pub begins : Begins old desc (Ok answer) new
 
 -- the request says what the machine refuses, and with which status
 pub record IsDenied (s : State) (r : AllocatorRequest) (name : List ℕ) (code : ℕ) : Type 0 where
-  pub idle : s.awaited ≡ None
+  pub idle : s.requests.awaited ≡ None
   pub desc : AllocationCreateDesc
   pub says : Says r name (description_of desc)
   pub cause : AllocationError
   pub code_is : code ≡ refusal_status (refusal_of cause)
   pub begins : Begins s desc (Err cause) s
 
--- the driver's memory is the awaited block, and the piece in it is told
-pub record IsGranted (old : State) (memory : ℕ) (out : AllocatorPiece) (new : State) : Type 0 where
-  pub awaits : IsSome old.awaited
-  pub given : Allocated
+-- the driver's memory, mapped at that address, is the awaited block, and the piece in it is told
+pub record IsGranted (old : State) (memory address : ℕ) (out : AllocatorPiece) (new : State) : Type 0 where
+  pub awaits : IsSome old.requests.awaited
+  pub given : Allocated MappedMemory
   pub told : out ≡ allocated_told given
-  pub grants : Grants old (record { 0 = memory }) (Ok given) new
+  pub grants : Grants old (record { memory = memory; address = address }) (Ok given) new
 
 -- the awaited block isn't there for this cause, and what comes of it is told
 pub record IsDeclined (old : State) (cause : Refusal) (out : AllocatorProgress) (new : State) : Type 0 where
-  pub awaits : IsSome old.awaited
-  pub answer : Result Progress AllocationError
+  pub awaits : IsSome old.requests.awaited
+  pub answer : Result (Progress MappedMemory) AllocationError
   pub told : out ≡ outcome_told answer
   pub declines : Declines old cause answer new
 
@@ -224,22 +227,23 @@ code_if exists code = if exists then Some code else None
 
 -- the piece that C names is live
 pub record IsLive (s : State) (p : AllocatorPiece) : Type 0 where
-  pub piece : Piece DeviceMemory
-  pub named : piece_told piece ≡ p.piece
-  pub live : machine_live.IsLiveIn s.slots p.memory_type (Some piece)
+  pub piece : Piece MappedMemory
+  pub named : Names p piece
+  pub live : machine_live.IsLive is_same_block s.requests.slots p.memory_type piece
 
 -- the piece is freed, and the memory that goes back with it is told
 pub record IsFreed (old : State) (p : AllocatorPiece) (out : AllocatorMemory) (new : State) : Type 0 where
-  pub idle : old.awaited ≡ None
-  pub piece : Piece DeviceMemory
-  pub named : piece_told piece ≡ p.piece
-  pub back : Option MemoryBack
+  pub idle : old.requests.awaited ≡ None
+  pub piece : Piece MappedMemory
+  pub named : Names p piece
+  pub back : Option (MemoryBack MappedMemory)
   pub told : out ≡ memory_told back
-  pub frees : Frees old p.memory_type piece (Ok back) new
+  pub frees : Frees is_same_block old p.memory_type piece (Ok back) new
 
 -- the piece has that name
 pub record IsRenamed (old : State) (p : AllocatorPiece) (name : List ℕ) (new : State) : Type 0 where
-  pub idle : old.awaited ≡ None
-  pub piece : Piece DeviceMemory
-  pub named : piece_told piece ≡ p.piece
-  pub renames : Renames old p.memory_type piece name (Ok tt) new
+  pub idle : old.requests.awaited ≡ None
+  pub piece : Piece MappedMemory
+  pub named : Names p piece
+  pub renames : RenamesIdle is_same_block old.requests p.memory_type piece name (Ok tt) new.requests
+  pub others : new ≡ record old { requests = new.requests }

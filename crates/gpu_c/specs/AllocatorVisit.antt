@@ -6,15 +6,15 @@ use Rattle.gpu_core.specs.TypeReport.{counted_with, nothing_counted}
 use Rattle.gpu_core.specs.TypeState.{capacity_of, shared_count}
 use Rattle.gpu_core.specs.Blocks.{slots_at}
 use Rattle.gpu_core.specs.Budgets.{budget_at}
-use Rattle.gpu_machine.specs.State.{State}
+use Rattle.gpu_c.specs.Allocator.{State}
 use Rattle.gpu_c.specs.Visit.{copied_into}
 use Rattle.gpu_c.specs.declared.allocator_values.TypeStatistics.{TypeStatistics}
 
 -- what is counted of a memory type, and of all its blocks together
 abbrev pub type_counts : State → (t : ℕ) → TypeStatistics
 type_counts s t =
-    let slots = slots_at s.slots t in
-    let budget = budget_at s.budgets t in
+    let slots = slots_at s.requests.slots t in
+    let budget = budget_at s.requests.budgets t in
     let counted = counted_with nothing_counted slots in
     record {
       capacity = capacity_of slots;

@@ -6,4 +6,6 @@ pub mod MemoryType
 pub mod Owned
 pub mod Allocator
 pub mod AllocatorVisit
+pub mod Ring
 pub mod Handle
+pub mod Plan

@@ -81,6 +81,10 @@ awaits_answer = 104
 abbrev pub awaits_no_answer : ℕ
 awaits_no_answer = 105
 
+-- there is no room for a frame more in flight
+abbrev pub too_many_frames : ℕ
+too_many_frames = 106
+
 -- blocks and memory types return no other error than the first five; Internal is theirs for a piece that isn't live
 abbrev pub status_of : AllocationError → ℕ
 status_of errors.OutOfMemory = out_of_memory

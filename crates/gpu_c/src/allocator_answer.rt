@@ -2,25 +2,26 @@
 
 ghost use Rattle.std.specs.Prelude.{◌≡◌, MatchOption};
 ghost use Rattle.gpu_values.specs.Refusal.{refusal_of};
-ghost use Rattle.gpu_c.specs.Allocator.{refusal_status, piece_told, allocated_told, no_allocator_piece, scheme_number, resource_of, question_told, no_question, progress_told, outcome_told, memory_told, budget_told, code_if};
+ghost use Rattle.gpu_c.specs.Allocator.{refusal_status, piece_told, Names, allocated_told, no_allocator_piece, question_told, no_question, progress_told, outcome_told, memory_told, block_told, budget_told, code_if};
 ghost use Rattle.gpu_c.specs.MemoryType.{no_memory_piece};
 ghost use Rattle.gpu_c.specs.declared.status.TheConstants.{OK, OUT_OF_MEMORY, FAILED_TO_MAP, NO_MEMORY_TYPE, INVALID, INVALID_DEVICE, HOST_OUT_OF_MEMORY, BUDGET_EXCEEDED, DRIVER_REFUSED};
 
 use crate::allocator_values::{
-    AllocatorBudget, AllocatorMemory, AllocatorPiece, AllocatorProgress, AllocatorQuestion,
+    AllocatorBlock, AllocatorBudget, AllocatorMemory, AllocatorPiece, AllocatorProgress,
+    AllocatorQuestion,
 };
+use crate::mapped_memory::MappedMemory;
 use crate::memory_type_values::MemoryPiece;
 use crate::status::{
     BUDGET_EXCEEDED, DRIVER_REFUSED, FAILED_TO_MAP, HOST_OUT_OF_MEMORY, INVALID, INVALID_DEVICE,
     NO_MEMORY_TYPE, OK, OUT_OF_MEMORY,
 };
 use gpu_core::Piece;
-use gpu_device::vulkan::{AllocationScheme, DeviceMemory};
-use gpu_machine::{Allocated, MemoryBack, Progress, Question};
+use gpu_machine::vulkan::{Allocated, LiveBlock, MemoryBack, Progress, Question};
 use gpu_values::{AllocationError, Result};
 use std::num::NonZeroU64;
 
-fn piece_told(piece: &Piece<DeviceMemory>) -> MemoryPiece
+fn piece_told(piece: &Piece<MappedMemory>) -> MemoryPiece
     ensures { result ≡ piece_told piece.now }
 {
     MemoryPiece {
@@ -28,14 +29,15 @@ fn piece_told(piece: &Piece<DeviceMemory>) -> MemoryPiece
         number: piece.chunk_id.get(),
         offset: piece.offset,
         size: piece.size,
-        block: piece.handle.0,
+        block: piece.handle.memory,
     }
 }
 
 /// The piece that a caller names; `None` where its number is 0.
-pub fn named_piece(piece: &MemoryPiece) -> Option<Piece<DeviceMemory>>
-    ensures { MatchOption result (piece.now.number ≡ 0) (λ p. piece_told p ≡ piece.now) }
+pub fn named_piece(named: &AllocatorPiece) -> Option<Piece<MappedMemory>>
+    ensures { MatchOption result (named.now.piece.number ≡ 0) (Names named.now) }
 {
+    let piece = &named.piece;
     match NonZeroU64::new(piece.number) {
         None => None,
         Some(number) => Some(Piece {
@@ -43,18 +45,21 @@ pub fn named_piece(piece: &MemoryPiece) -> Option<Piece<DeviceMemory>>
             chunk_id: number,
             offset: piece.offset,
             size: piece.size,
-            handle: DeviceMemory(piece.block),
+            handle: MappedMemory {
+                memory: piece.block,
+                address: named.address,
+            },
         }),
     }
 }
 
 /// A piece of an allocator.
-pub fn allocated_told(allocated: &Allocated) -> AllocatorPiece
+pub fn allocated_told(allocated: &Allocated<MappedMemory>) -> AllocatorPiece
     ensures { result ≡ allocated_told allocated.now }
 {
     AllocatorPiece {
         memory_type: allocated.memory_type,
-        mapped: allocated.mapped,
+        address: allocated.piece.handle.address,
         piece: piece_told(&allocated.piece),
     }
 }
@@ -64,7 +69,7 @@ fn no_piece() -> AllocatorPiece
 {
     AllocatorPiece {
         memory_type: 0,
-        mapped: false,
+        address: 0,
         piece: MemoryPiece {
             slot: 0,
             number: 0,
@@ -75,36 +80,13 @@ fn no_piece() -> AllocatorPiece
     }
 }
 
-fn scheme_number(scheme: AllocationScheme) -> u32
-    ensures { result ≡ scheme_number scheme }
-{
-    match scheme {
-        AllocationScheme::GpuAllocatorManaged => 1,
-        AllocationScheme::DedicatedBuffer(_) => 2,
-        AllocationScheme::DedicatedImage(_) => 3,
-    }
-}
-
-/// The buffer or image that memory is for alone, else 0.
-fn resource_of(scheme: AllocationScheme) -> u64
-    ensures { result ≡ resource_of scheme }
-{
-    match scheme {
-        AllocationScheme::GpuAllocatorManaged => 0,
-        AllocationScheme::DedicatedBuffer(buffer) => buffer.0,
-        AllocationScheme::DedicatedImage(image) => image.0,
-    }
-}
-
 fn question_told(question: &Question) -> AllocatorQuestion
     ensures { result ≡ question_told question.now }
 {
     AllocatorQuestion {
-        size: question.info.size,
-        memory_type: question.info.memory_type_index,
-        scheme: scheme_number(question.info.scheme),
-        resource: resource_of(question.info.scheme),
-        device_address: question.info.device_address,
+        size: question.block.size,
+        memory_type: question.block.memory_type,
+        dedicated: question.block.dedicated,
         mapped: question.mapped,
     }
 }
@@ -115,15 +97,13 @@ fn no_question() -> AllocatorQuestion
     AllocatorQuestion {
         size: 0,
         memory_type: 0,
-        scheme: 0,
-        resource: 0,
-        device_address: false,
+        dedicated: false,
         mapped: false,
     }
 }
 
 /// What a request leads to.
-pub fn progress_told(progress: &Progress) -> AllocatorProgress
+pub fn progress_told(progress: &Progress<MappedMemory>) -> AllocatorProgress
     ensures { result ≡ progress_told progress.now }
 {
     match progress {
@@ -143,7 +123,7 @@ pub fn progress_told(progress: &Progress) -> AllocatorProgress
 }
 
 /// The same once the driver has refused.
-pub fn outcome_told(outcome: &Result<Progress>) -> AllocatorProgress
+pub fn outcome_told(outcome: &Result<Progress<MappedMemory>>) -> AllocatorProgress
     ensures { result ≡ outcome_told outcome.now }
 {
     match outcome {
@@ -158,7 +138,7 @@ pub fn outcome_told(outcome: &Result<Progress>) -> AllocatorProgress
 }
 
 /// Memory that goes back, or none.
-pub fn memory_told(back: Option<MemoryBack>) -> AllocatorMemory
+pub fn memory_told(back: Option<MemoryBack<MappedMemory>>) -> AllocatorMemory
     ensures { result ≡ memory_told back }
 {
     match back {
@@ -166,11 +146,37 @@ pub fn memory_told(back: Option<MemoryBack>) -> AllocatorMemory
             exists: false,
             mapped: false,
             memory: 0,
+            address: 0,
         },
         Some(back) => AllocatorMemory {
             exists: true,
             mapped: back.mapped,
-            memory: back.memory.0,
+            memory: back.handle.memory,
+            address: back.handle.address,
+        },
+    }
+}
+
+/// A live block, or none.
+pub fn block_told(block: Option<LiveBlock<MappedMemory>>) -> AllocatorBlock
+    ensures { result ≡ block_told block }
+{
+    match block {
+        None => AllocatorBlock {
+            exists: false,
+            mapped: false,
+            shared: false,
+            memory: 0,
+            address: 0,
+            size: 0,
+        },
+        Some(block) => AllocatorBlock {
+            exists: true,
+            mapped: block.mapped,
+            shared: block.shared,
+            memory: block.handle.memory,
+            address: block.handle.address,
+            size: block.size,
         },
     }
 }

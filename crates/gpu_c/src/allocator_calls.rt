@@ -6,8 +6,8 @@ ghost use Rattle.std.specs.Prelude.{◌≡◌, ◌≢◌, ◌≤◌, ◌↔◌, 
 ghost use Rattle.gpu_core.specs.Blocks.{total_capacity};
 ghost use Rattle.gpu_core.specs.Budgets.{budget_at};
 ghost use Rattle.gpu_vulkan.specs.BlockAnswer.{memory_refusal, map_refusal};
-ghost use Rattle.gpu_machine.specs.Calls.{SetsBudget};
-ghost use Rattle.gpu_machine.specs.State.{told_fault};
+ghost use Rattle.gpu_pool.specs.Idle.{SetsBudgetIdle};
+ghost use Rattle.gpu_machine.specs.VulkanState.{told_fault};
 ghost use Rattle.gpu_c.specs.Handle.{Changes};
 ghost use Rattle.gpu_c.specs.Status as status;
 ghost use Rattle.gpu_c.specs.Status.{IsOneOf};
@@ -90,10 +90,10 @@ pub extern "C" fn pilhangko_raw_allocator_begin(
         (λ old new. IsBegun old request.now name.now progress.new new) }
     ensures no_handle { (result ≡ status.no_handle) ↔ (allocator.old.value ≡ None) }
     ensures awaits_answer { (result ≡ status.awaits_answer)
-        ↔ IsSomeAnd allocator.old.value (λ s. IsSome s.awaited) }
+        ↔ IsSomeAnd allocator.old.value (λ s. IsSome s.requests.awaited) }
     ensures invalid { (result ≡ status.invalid)
         ↔ IsSomeAnd allocator.old.value
-        (λ s. (s.awaited ≡ None) × SaysNothing request.now name.now) }
+        (λ s. (s.requests.awaited ≡ None) × SaysNothing request.now name.now) }
     ensures denied { result ≢ status.ok → result ≢ status.no_handle → result ≢ status.awaits_answer
         → result ≢ status.invalid → IsSomeAnd allocator.old.value
         (λ s. IsDenied s request.now name.now result) }
@@ -113,21 +113,22 @@ pub extern "C" fn pilhangko_raw_allocator_begin(
     }
 }
 
-/// The driver granted the memory that was asked for, and mapped it where it was to be mapped: reports the piece in it. It takes no host
-/// memory. `AWAITS_NO_ANSWER` where no question is open.
+/// The driver granted the memory that was asked for, and mapped it at that address where it was to be mapped, 0 where it wasn't: reports the
+/// piece in it. It takes no host memory. `AWAITS_NO_ANSWER` where no question is open.
 #[unsafe(no_mangle)]
 pub extern "C" fn pilhangko_raw_allocator_granted(
     allocator: &mut AllocatorHandle,
     alloc: Global,
     memory: u64,
+    address: u64,
     piece: &mut AllocatorPiece,
 ) -> u32
     ensures granted { result ≡ status.ok
         → Changes allocator.old.value allocator.new.value
-        (λ old new. IsGranted old memory piece.new new) }
+        (λ old new. IsGranted old memory address piece.new new) }
     ensures no_handle { (result ≡ status.no_handle) ↔ (allocator.old.value ≡ None) }
     ensures awaits_no_answer { (result ≡ status.awaits_no_answer)
-        ↔ IsSomeAnd allocator.old.value (λ s. s.awaited ≡ None) }
+        ↔ IsSomeAnd allocator.old.value (λ s. s.requests.awaited ≡ None) }
     ensures statuses { IsOneOf result (status.ok ∷ status.no_handle ∷ status.awaits_no_answer
         ∷ []) }
     ensures refused { result ≢ status.ok
@@ -136,7 +137,7 @@ pub extern "C" fn pilhangko_raw_allocator_granted(
     match allocator.take(alloc) {
         None => NO_HANDLE,
         Some(mut kept) => {
-            let status = granted(&mut kept, memory, piece);
+            let status = granted(&mut kept, memory, address, piece);
             allocator.put(kept);
             status
         }
@@ -156,7 +157,7 @@ pub extern "C" fn pilhangko_raw_allocator_refused(
         (λ old new. IsDeclined old (memory_refusal code) progress.new new) }
     ensures no_handle { (result ≡ status.no_handle) ↔ (allocator.old.value ≡ None) }
     ensures awaits_no_answer { (result ≡ status.awaits_no_answer)
-        ↔ IsSomeAnd allocator.old.value (λ s. s.awaited ≡ None) }
+        ↔ IsSomeAnd allocator.old.value (λ s. s.requests.awaited ≡ None) }
     ensures statuses { IsOneOf result (status.ok ∷ status.no_handle ∷ status.awaits_no_answer
         ∷ []) }
     ensures refused { result ≢ status.ok
@@ -186,7 +187,7 @@ pub extern "C" fn pilhangko_raw_allocator_mapping_refused(
         (λ old new. IsDeclined old (map_refusal (code_if has_code code)) progress.new new) }
     ensures no_handle { (result ≡ status.no_handle) ↔ (allocator.old.value ≡ None) }
     ensures awaits_no_answer { (result ≡ status.awaits_no_answer)
-        ↔ IsSomeAnd allocator.old.value (λ s. s.awaited ≡ None) }
+        ↔ IsSomeAnd allocator.old.value (λ s. s.requests.awaited ≡ None) }
     ensures statuses { IsOneOf result (status.ok ∷ status.no_handle ∷ status.awaits_no_answer
         ∷ []) }
     ensures refused { result ≢ status.ok
@@ -215,9 +216,9 @@ pub extern "C" fn pilhangko_raw_allocator_free(
         (λ old new. IsFreed old piece.now back.new new) }
     ensures no_handle { (result ≡ status.no_handle) ↔ (allocator.old.value ≡ None) }
     ensures awaits_answer { (result ≡ status.awaits_answer)
-        ↔ IsSomeAnd allocator.old.value (λ s. IsSome s.awaited) }
+        ↔ IsSomeAnd allocator.old.value (λ s. IsSome s.requests.awaited) }
     ensures not_live { (result ≡ status.not_live)
-        ↔ IsSomeAnd allocator.old.value (λ s. (s.awaited ≡ None) × (IsLive s piece.now → ⊥)) }
+        ↔ IsSomeAnd allocator.old.value (λ s. (s.requests.awaited ≡ None) × (IsLive s piece.now → ⊥)) }
     ensures statuses { IsOneOf result (status.ok ∷ status.no_handle ∷ status.awaits_answer
         ∷ status.not_live ∷ []) }
     ensures refused { result ≢ status.ok
@@ -247,13 +248,13 @@ pub extern "C" fn pilhangko_raw_allocator_rename(
         (λ old new. IsRenamed old piece.now name.now new) }
     ensures no_handle { (result ≡ status.no_handle) ↔ (allocator.old.value ≡ None) }
     ensures awaits_answer { (result ≡ status.awaits_answer)
-        ↔ IsSomeAnd allocator.old.value (λ s. IsSome s.awaited) }
+        ↔ IsSomeAnd allocator.old.value (λ s. IsSome s.requests.awaited) }
     ensures invalid { (result ≡ status.invalid)
-        ↔ IsSomeAnd allocator.old.value (λ s. (s.awaited ≡ None) × (IsUtf8 name.now → ⊥)) }
+        ↔ IsSomeAnd allocator.old.value (λ s. (s.requests.awaited ≡ None) × (IsUtf8 name.now → ⊥)) }
     ensures not_live { (result ≡ status.not_live) ↔ IsSomeAnd allocator.old.value
-        (λ s. (s.awaited ≡ None) × IsUtf8 name.now × (IsLive s piece.now → ⊥)) }
+        (λ s. (s.requests.awaited ≡ None) × IsUtf8 name.now × (IsLive s piece.now → ⊥)) }
     ensures host_out_of_memory { result ≡ status.host_out_of_memory → IsSomeAnd allocator.old.value
-        (λ s. (s.awaited ≡ None) × IsUtf8 name.now × IsLive s piece.now) }
+        (λ s. (s.requests.awaited ≡ None) × IsUtf8 name.now × IsLive s piece.now) }
     ensures statuses { IsOneOf result (status.ok ∷ status.no_handle ∷ status.awaits_answer
         ∷ status.invalid ∷ status.not_live ∷ status.host_out_of_memory ∷ []) }
     ensures refused { result ≢ status.ok → allocator.new.value ≡ allocator.old.value }
@@ -305,14 +306,15 @@ pub extern "C" fn pilhangko_raw_allocator_set_budget(
 ) -> u32
     ensures bounded { result ≡ status.ok
         → Changes allocator.old.value allocator.new.value
-        (λ old new. (old.awaited ≡ None)
-        × SetsBudget old memory_type (number_if has_budget bytes) (Ok tt) new) }
+        (λ old new. (old.requests.awaited ≡ None)
+        × SetsBudgetIdle old.requests memory_type (number_if has_budget bytes) (Ok tt) new.requests
+        × (new ≡ record old { requests = new.requests })) }
     ensures no_handle { (result ≡ status.no_handle) ↔ (allocator.old.value ≡ None) }
     ensures awaits_answer { (result ≡ status.awaits_answer)
-        ↔ IsSomeAnd allocator.old.value (λ s. IsSome s.awaited) }
+        ↔ IsSomeAnd allocator.old.value (λ s. IsSome s.requests.awaited) }
     ensures no_such_type { (result ≡ status.no_such_type)
         ↔ IsSomeAnd allocator.old.value
-        (λ s. (s.awaited ≡ None) × (length s.budgets ≤ memory_type)) }
+        (λ s. (s.requests.awaited ≡ None) × (length s.requests.budgets ≤ memory_type)) }
     ensures statuses { IsOneOf result (status.ok ∷ status.no_handle ∷ status.awaits_answer
         ∷ status.no_such_type ∷ []) }
     ensures refused { result ≢ status.ok → allocator.new.value ≡ allocator.old.value }
@@ -337,7 +339,7 @@ pub extern "C" fn pilhangko_raw_allocator_budget(
 ) -> u32
     ensures reported { result ≡ status.ok
         → IsSomeAnd allocator.old.value
-        (λ s. budget.new ≡ budget_told (budget_at s.budgets memory_type)) }
+        (λ s. budget.new ≡ budget_told (budget_at s.requests.budgets memory_type)) }
     ensures no_handle { (result ≡ status.no_handle) ↔ (allocator.old.value ≡ None) }
     ensures statuses { IsOneOf result (status.ok ∷ status.no_handle ∷ []) }
     ensures same { allocator.new.value ≡ allocator.old.value }
@@ -361,7 +363,7 @@ pub extern "C" fn pilhangko_raw_allocator_capacity(
     bytes: &mut u64,
 ) -> u32
     ensures reported { result ≡ status.ok
-        → IsSomeAnd allocator.old.value (λ s. bytes.new ≡ total_capacity s.slots) }
+        → IsSomeAnd allocator.old.value (λ s. bytes.new ≡ total_capacity s.requests.slots) }
     ensures no_handle { (result ≡ status.no_handle) ↔ (allocator.old.value ≡ None) }
     ensures statuses { IsOneOf result (status.ok ∷ status.no_handle ∷ []) }
     ensures same { allocator.new.value ≡ allocator.old.value }

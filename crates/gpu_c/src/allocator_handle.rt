@@ -1,10 +1,12 @@
 //! What a C program holds of an allocator: one pointer, which is null where nothing lies behind it.
 
 ghost use Rattle.std.specs.Prelude.{◌≡◌, Option, Some, None, MatchOption};
-ghost use Rattle.gpu_machine.specs.State.{State};
+ghost use Rattle.gpu_c.specs.declared.mapped_memory.MappedMemory as mapped;
+ghost use Rattle.gpu_machine.specs.VulkanState.{State};
 
+use crate::mapped_memory::MappedMemory;
 use crate::raw_box::RawBox;
-use gpu_machine::Machine;
+use gpu_machine::vulkan::Machine;
 use std::alloc::Global;
 use std::marker::{Model, Send};
 
@@ -13,14 +15,16 @@ use std::marker::{Model, Send};
 #[derive(Drop)]
 pub struct AllocatorHandle {
     opaque: *mut u8,
-    pub ghost value: { Option State },
+    pub ghost value: { Option (State mapped.MappedMemory) },
 }
 
 impl Model for AllocatorHandle {
     ghost use Rattle.gpu_c.specs.Owned.{handle_owns};
-    ghost use Rattle.gpu_machine.specs.contracts.machine.Machine.{the_row};
+    ghost use Rattle.gpu_c.specs.contracts.mapped_memory.MappedMemory as memory;
+    ghost use Rattle.gpu_c.specs.contracts.mapped_memory.MappedMemoryPartialEq.TheImpl as memory_eq;
+    ghost use Rattle.gpu_machine.specs.contracts.vulkan.machine.Machine.{the_row};
 
-    ghost also_owns = { λ h. handle_owns the_row h.opaque h.value };
+    ghost also_owns = { λ h. handle_owns (the_row memory.the_row memory_eq.ghosts) h.opaque h.value };
 }
 
 // What lies behind it may go to another thread, and so may the right to free it.
@@ -36,7 +40,7 @@ impl AllocatorHandle {
         }
     }
 
-    fn of(value: RawBox<Machine, Global>) -> AllocatorHandle
+    fn of(value: RawBox<Machine<MappedMemory>, Global>) -> AllocatorHandle
         ensures { result.value ≡ Some value.value }
     {
         let RawBox { at, alloc: _ } = value;
@@ -45,7 +49,7 @@ impl AllocatorHandle {
         }
     }
 
-    fn into_raw_box(self, alloc: Global) -> Option<RawBox<Machine, Global>>
+    fn into_raw_box(self, alloc: Global) -> Option<RawBox<Machine<MappedMemory>, Global>>
         ensures { MatchOption result (self.value ≡ None) (λ b. self.value ≡ Some b.value) }
     {
         let AllocatorHandle { opaque } = self;
@@ -53,14 +57,14 @@ impl AllocatorHandle {
             None
         } else {
             Some(RawBox {
-                at: opaque as *mut Machine,
+                at: opaque as *mut Machine<MappedMemory>,
                 alloc,
             })
         }
     }
 
     /// Takes the value out, and leaves null.
-    pub fn take(&mut self, alloc: Global) -> Option<Box<Machine>>
+    pub fn take(&mut self, alloc: Global) -> Option<Box<Machine<MappedMemory>>>
         ensures left { self.new.value ≡ None }
         ensures value { MatchOption result (self.old.value ≡ None)
             (λ b. self.old.value ≡ Some b.value) }
@@ -72,7 +76,7 @@ impl AllocatorHandle {
     }
 
     /// Puts a value in. Only an empty handle is given one, so that nothing is lost.
-    pub fn put(&mut self, value: Box<Machine>)
+    pub fn put(&mut self, value: Box<Machine<MappedMemory>>)
         requires { self.old.value ≡ None }
         ensures { self.new.value ≡ Some value.value }
     {

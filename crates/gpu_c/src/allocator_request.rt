@@ -1,10 +1,10 @@
 //! Requests of an allocator and its device's description, as C makes them.
 
-ghost use Rattle.std.specs.Prelude.{◌≡◌, ◌==◌, map, length, nat_le, nat_lt, not, MatchOption, IfOk, Some};
+ghost use Rattle.std.specs.Prelude.{◌≡◌, ◌==◌, map, length, nat_le, nat_lt, not, MatchOption, IfOk, Some, false};
 ghost use Rattle.std.specs.List.{list_any};
 ghost use Rattle.std.specs.Int.{is_power_of_two};
 ghost use Rattle.gpu_vulkan.specs.Setup.{lacks_heap};
-ghost use Rattle.gpu_machine.specs.Description.{description_of};
+ghost use Rattle.gpu_machine.specs.VulkanDescription.{description_of};
 ghost use Rattle.gpu_c.specs.declared.allocator_values.AllocatorSettings.{AllocatorSettings};
 ghost use Rattle.gpu_c.specs.Allocator.{memory_type_told, heap_told, device_told, device_status, block_sizes, location_named, scheme_named, Says, SaysNothing, no_lines};
 ghost use Rattle.gpu_c.specs.declared.request.TheConstants.{LINEAR};
@@ -141,11 +141,11 @@ pub fn heaps_of(alloc: Global, told: &[DeviceHeap]) -> Result<Vec<MemoryHeap>, A
     Ok(heaps)
 }
 
-/// What an allocator's maker chose; nothing is logged.
+/// What an allocator's maker chose; nothing is logged, and what else memory is made for, its caller tells the driver.
 pub fn settings_of(settings: &AllocatorSettings) -> Settings
     ensures sizes { result.sizes ≡ block_sizes settings.now }
     ensures debug { result.debug ≡ no_lines }
-    ensures address { result.buffer_device_address ≡ settings.now.device_address }
+    ensures address { result.buffer_device_address ≡ false }
 {
     Settings {
         sizes: AllocationSizes::new(settings.device_block_size, settings.host_block_size)
@@ -157,6 +157,6 @@ pub fn settings_of(settings: &AllocatorSettings) -> Settings
             log_allocations: false,
             log_frees: false,
         },
-        buffer_device_address: settings.device_address,
+        buffer_device_address: false,
     }
 }

@@ -36,8 +36,6 @@ pub struct AllocatorSettings {
     pub host_block_size: u64,
     /// The largest size of such a block.
     pub largest_host_block_size: u64,
-    /// Whether memory is made so that shaders may read its address (`bufferDeviceAddress`).
-    pub device_address: bool,
 }
 
 /// What is asked of an allocator.
@@ -66,26 +64,22 @@ pub struct AllocatorRequest {
 pub struct AllocatorPiece {
     /// The memory type that it is of.
     pub memory_type: usize,
-    /// Whether its block is mapped, as the caller was asked to do. No call reads it.
-    pub mapped: bool,
+    /// The address at which its block is mapped, as the caller told it, 0 where it isn't.
+    pub address: u64,
     /// The piece; its block is the driver's memory.
     pub piece: MemoryPiece,
 }
 
-/// What the driver is to be asked for.
+/// What the driver is to be asked for: memory, for what the request says that it is for.
 #[repr(C)]
 #[derive(Drop)]
 pub struct AllocatorQuestion {
     /// The size of the memory.
     pub size: u64,
     /// Its memory type.
-    pub memory_type: u32,
-    /// `MANAGED`, `FOR_BUFFER` or `FOR_IMAGE`.
-    pub scheme: u32,
-    /// The buffer or image that it is for alone, else 0.
-    pub resource: u64,
-    /// Whether shaders may read its address (`VK_MEMORY_ALLOCATE_DEVICE_ADDRESS_BIT`).
-    pub device_address: bool,
+    pub memory_type: usize,
+    /// Whether it is one piece's own, and not shared.
+    pub dedicated: bool,
     /// Whether it is to be mapped, whole.
     pub mapped: bool,
 }
@@ -114,6 +108,26 @@ pub struct AllocatorMemory {
     pub mapped: bool,
     /// The driver's handle of it.
     pub memory: u64,
+    /// The address at which it is mapped, as the caller told it, 0 where it isn't.
+    pub address: u64,
+}
+
+/// A live block, or none.
+#[repr(C)]
+#[derive(Drop)]
+pub struct AllocatorBlock {
+    /// Whether there is one; else all is 0.
+    pub exists: bool,
+    /// Whether it is mapped.
+    pub mapped: bool,
+    /// Whether pieces share it; else it is one piece's own.
+    pub shared: bool,
+    /// The driver's handle of its memory.
+    pub memory: u64,
+    /// The address at which it is mapped, as the caller told it, 0 where it isn't.
+    pub address: u64,
+    /// Its size.
+    pub size: u64,
 }
 
 /// What is counted of a memory type, and of all its blocks together.

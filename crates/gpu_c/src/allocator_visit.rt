@@ -5,14 +5,14 @@ ghost use Rattle.std.specs.Option.{option_map, unwrap_or};
 ghost use Rattle.std.specs.List.{slice_get};
 ghost use Rattle.gpu_block_pieces.specs.Leak.{leak_text};
 ghost use Rattle.gpu_core.specs.TypeReport.{pieces_in, statistics_in};
-ghost use Rattle.gpu_core.specs.TypeState.{slot_at};
+ghost use Rattle.gpu_core.specs.TypeState.{slot_at, capacity_of};
 ghost use Rattle.gpu_core.specs.Blocks.{slots_at};
 ghost use Rattle.gpu_core.specs.Budgets.{budget_at};
 ghost use Rattle.gpu_core.specs.Leaks.{all_leaks};
 ghost use Rattle.gpu_core.specs.Reports.{whole_report};
 ghost use Rattle.gpu_report.specs.ReportJson.{report_json};
-ghost use Rattle.gpu_machine.specs.Calls.{block_memory};
-ghost use Rattle.gpu_c.specs.Allocator.{memory_told};
+ghost use Rattle.gpu_machine.specs.VulkanCalls.{block_at};
+ghost use Rattle.gpu_c.specs.Allocator.{block_told};
 ghost use Rattle.gpu_c.specs.AllocatorVisit.{type_counts, ShowsText, ShowsLeak};
 ghost use Rattle.gpu_c.specs.MemoryType.{block_counts};
 ghost use Rattle.gpu_c.specs.Status as status;
@@ -20,32 +20,27 @@ ghost use Rattle.gpu_c.specs.Status.{IsOneOf};
 ghost use Rattle.gpu_c.specs.Visit.{pieces_in_from, ShowsPieces, ShowsNames};
 ghost use Rattle.gpu_c.specs.declared.status.TheConstants.{OK, HOST_OUT_OF_MEMORY, NO_SUCH_TYPE};
 
-use crate::allocator_answer::memory_told;
-use crate::allocator_values::{AllocatorMemory, TypeStatistics};
+use crate::allocator_answer::block_told;
+use crate::allocator_values::{AllocatorBlock, TypeStatistics};
+use crate::mapped_memory::MappedMemory;
 use crate::memory_type::block_counts;
 use crate::memory_type_values::MemoryBlockStatistics;
 use crate::status::{HOST_OUT_OF_MEMORY, NO_SUCH_TYPE, OK};
 use crate::virtual_block_values::PieceView;
 use crate::visit::{copy_text, fill_from, names_from};
-use gpu_core::MemoryType;
-use gpu_device::vulkan::DeviceMemory;
-use gpu_machine::Machine;
+use gpu_machine::vulkan::Machine;
 use gpu_report::ReportJson;
 use gpu_values::Result;
 use std::alloc::{AllocError, Global};
 
-/// The memory type at an index, if it is there.
-fn memory_type(machine: &Machine, index: usize) -> Option<&MemoryType<DeviceMemory>>
-    ensures { slots_at machine.now.slots index
-        ≡ unwrap_or (option_map (λ m. m.now.slots) result) [] }
-{
-    machine.memory_types().memory_type(index)
-}
-
 /// What is counted of a memory type and of all its blocks together. `NO_SUCH_TYPE` where it isn't there.
-pub fn type_statistics(machine: &Machine, index: usize, statistics: &mut TypeStatistics) -> u32
+pub fn type_statistics(
+    machine: &Machine<MappedMemory>,
+    index: usize,
+    statistics: &mut TypeStatistics,
+) -> u32
     ensures reported { result ≡ status.ok → statistics.new ≡ type_counts machine.now index }
-    ensures no_such_type { (result ≡ status.no_such_type) ↔ (length machine.now.slots ≤ index) }
+    ensures no_such_type { (result ≡ status.no_such_type) ↔ (length machine.now.requests.slots ≤ index) }
     ensures statuses { IsOneOf result (status.ok ∷ status.no_such_type ∷ []) }
     ensures refused { result ≢ status.ok → statistics.new ≡ statistics.old }
 {
@@ -68,19 +63,41 @@ pub fn type_statistics(machine: &Machine, index: usize, statistics: &mut TypeSta
     OK
 }
 
-/// The memory of the block in a slot of a memory type, or none.
-pub fn block(machine: &Machine, index: usize, slot: usize) -> AllocatorMemory
-    ensures { result ≡ memory_told (block_memory machine.now index slot) }
+/// The sum of the sizes of a memory type's blocks. `NO_SUCH_TYPE` where it isn't there.
+pub fn type_capacity(machine: &Machine<MappedMemory>, index: usize, bytes: &mut u64) -> u32
+    ensures reported { result ≡ status.ok
+        → bytes.new ≡ capacity_of (slots_at machine.now.requests.slots index) }
+    ensures no_such_type { (result ≡ status.no_such_type)
+        ↔ (length machine.now.requests.slots ≤ index) }
+    ensures statuses { IsOneOf result (status.ok ∷ status.no_such_type ∷ []) }
+    ensures refused { result ≢ status.ok → bytes.new ≡ bytes.old }
 {
-    memory_told(machine.block(index, slot))
+    match machine.memory_types().memory_type(index) {
+        None => NO_SUCH_TYPE,
+        Some(counted) => {
+            *bytes = counted.capacity();
+            OK
+        }
+    }
+}
+
+/// The block in a slot of a memory type, or none.
+pub fn block(machine: &Machine<MappedMemory>, index: usize, slot: usize) -> AllocatorBlock
+    ensures { result ≡ block_told (block_at machine.now index slot) }
+{
+    block_told(machine.block(index, slot))
 }
 
 /// What is counted of the block in a slot of a memory type, or none.
-pub fn block_statistics(machine: &Machine, index: usize, slot: usize) -> MemoryBlockStatistics
+pub fn block_statistics(
+    machine: &Machine<MappedMemory>,
+    index: usize,
+    slot: usize,
+) -> MemoryBlockStatistics
     ensures { result ≡ block_counts (statistics_in
-        (slot_at (slots_at machine.now.slots index) slot)) }
+        (slot_at (slots_at machine.now.requests.slots index) slot)) }
 {
-    match memory_type(machine, index) {
+    match machine.memory_type(index) {
         None => block_counts(None),
         Some(found) => block_counts(found.statistics(slot)),
     }
@@ -89,17 +106,17 @@ pub fn block_statistics(machine: &Machine, index: usize, slot: usize) -> MemoryB
 /// Fills an array with the pieces of the block in a slot of a memory type whose own bytes begin at `from` or behind it, as far as it has
 /// room, and returns how many it shows.
 pub fn pieces(
-    machine: &Machine,
+    machine: &Machine<MappedMemory>,
     index: usize,
     slot: usize,
     from: u64,
     views: &mut [PieceView],
 ) -> usize
     ensures { ShowsPieces (pieces_in_from from
-        (pieces_in (slot_at (slots_at machine.now.slots index) slot))) views.old views.new
+        (pieces_in (slot_at (slots_at machine.now.requests.slots index) slot))) views.old views.new
         result }
 {
-    let Some(found) = memory_type(machine, index) else {
+    let Some(found) = machine.memory_type(index) else {
         return 0;
     };
     match found.pieces(slot) {
@@ -111,7 +128,7 @@ pub fn pieces(
 /// Fills an array with the lengths of the names of the pieces that `pieces` shows, and a buffer with these names one after another, as
 /// far as each has room; returns how many lengths there are.
 pub fn piece_names(
-    machine: &Machine,
+    machine: &Machine<MappedMemory>,
     index: usize,
     slot: usize,
     from: u64,
@@ -119,10 +136,10 @@ pub fn piece_names(
     names: &mut [u8],
 ) -> usize
     ensures { ShowsNames (pieces_in_from from
-        (pieces_in (slot_at (slots_at machine.now.slots index) slot))) lengths.old lengths.new
+        (pieces_in (slot_at (slots_at machine.now.requests.slots index) slot))) lengths.old lengths.new
         names.old names.new result }
 {
-    let Some(found) = memory_type(machine, index) else {
+    let Some(found) = machine.memory_type(index) else {
         return 0;
     };
     match found.pieces(slot) {
@@ -132,18 +149,23 @@ pub fn piece_names(
 }
 
 /// The report as JSON.
-fn report_text(machine: &Machine, alloc: Global) -> Result<String>
+fn report_text(machine: &Machine<MappedMemory>, alloc: Global) -> Result<String>
     ensures { IfOk result (λ text. string_bytes text
-        ≡ report_json (whole_report machine.now.slots)) }
+        ≡ report_json (whole_report machine.now.requests.slots)) }
 {
     let report = machine.report()?;
     Ok(ReportJson(&report).to_string(alloc)?)
 }
 
 /// Copies the report as JSON into a buffer, as much as there is room for, and reports its whole length.
-pub fn report(machine: &Machine, alloc: Global, text: &mut [u8], whole: &mut usize) -> u32
+pub fn report(
+    machine: &Machine<MappedMemory>,
+    alloc: Global,
+    text: &mut [u8],
+    whole: &mut usize,
+) -> u32
     ensures reported { result ≡ status.ok
-        → ShowsText (report_json (whole_report machine.now.slots)) text.old text.new whole.new }
+        → ShowsText (report_json (whole_report machine.now.requests.slots)) text.old text.new whole.new }
     ensures statuses { IsOneOf result (status.ok ∷ status.host_out_of_memory ∷ []) }
     ensures refused { result ≢ status.ok → (text.new ≡ text.old) × (whole.new ≡ whole.old) }
 {
@@ -157,10 +179,14 @@ pub fn report(machine: &Machine, alloc: Global, text: &mut [u8], whole: &mut usi
 }
 
 /// The text of the live piece with that number, by memory type, then by slot, then in order of offset, if there are so many.
-fn leak_at(machine: &Machine, alloc: Global, number: usize) -> Result<Option<String>, AllocError>
+fn leak_at(
+    machine: &Machine<MappedMemory>,
+    alloc: Global,
+    number: usize,
+) -> Result<Option<String>, AllocError>
     ensures text { IfOk result (λ text. option_map string_bytes text
-        ≡ option_map leak_text (slice_get (all_leaks machine.now.slots) number)) }
-    ensures there { OnErr result (IsSome (slice_get (all_leaks machine.now.slots) number)) }
+        ≡ option_map leak_text (slice_get (all_leaks machine.now.requests.slots) number)) }
+    ensures there { OnErr result (IsSome (slice_get (all_leaks machine.now.requests.slots) number)) }
 {
     match machine.leaks().nth(number) {
         None => Ok(None),
@@ -171,16 +197,16 @@ fn leak_at(machine: &Machine, alloc: Global, number: usize) -> Result<Option<Str
 /// Copies the text of a live piece as a leak into a buffer, as much as there is room for, and reports its whole length, 0 where there
 /// are not so many.
 pub fn leak(
-    machine: &Machine,
+    machine: &Machine<MappedMemory>,
     alloc: Global,
     number: usize,
     text: &mut [u8],
     whole: &mut usize,
 ) -> u32
     ensures reported { result ≡ status.ok
-        → ShowsLeak (slice_get (all_leaks machine.now.slots) number) text.old text.new whole.new }
+        → ShowsLeak (slice_get (all_leaks machine.now.requests.slots) number) text.old text.new whole.new }
     ensures host_out_of_memory { result ≡ status.host_out_of_memory
-        → IsSome (slice_get (all_leaks machine.now.slots) number) }
+        → IsSome (slice_get (all_leaks machine.now.requests.slots) number) }
     ensures statuses { IsOneOf result (status.ok ∷ status.host_out_of_memory ∷ []) }
     ensures refused { result ≢ status.ok → (text.new ≡ text.old) × (whole.new ≡ whole.old) }
 {

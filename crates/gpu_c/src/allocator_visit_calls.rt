@@ -3,13 +3,13 @@
 ghost use Rattle.std.specs.Prelude.{◌≡◌, ◌≢◌, ◌≤◌, ◌↔◌, [], ◌∷◌, Some, None, IsSome, IsSomeAnd, length};
 ghost use Rattle.std.specs.List.{slice_get};
 ghost use Rattle.gpu_core.specs.TypeReport.{pieces_in, statistics_in};
-ghost use Rattle.gpu_core.specs.TypeState.{slot_at};
+ghost use Rattle.gpu_core.specs.TypeState.{slot_at, capacity_of};
 ghost use Rattle.gpu_core.specs.Blocks.{slots_at};
 ghost use Rattle.gpu_core.specs.Leaks.{all_leaks};
 ghost use Rattle.gpu_core.specs.Reports.{whole_report};
 ghost use Rattle.gpu_report.specs.ReportJson.{report_json};
-ghost use Rattle.gpu_machine.specs.Calls.{block_memory};
-ghost use Rattle.gpu_c.specs.Allocator.{memory_told};
+ghost use Rattle.gpu_machine.specs.VulkanCalls.{block_at};
+ghost use Rattle.gpu_c.specs.Allocator.{block_told};
 ghost use Rattle.gpu_c.specs.AllocatorVisit.{type_counts, ShowsText, ShowsLeak};
 ghost use Rattle.gpu_c.specs.MemoryType.{block_counts};
 ghost use Rattle.gpu_c.specs.Status as status;
@@ -18,9 +18,9 @@ ghost use Rattle.gpu_c.specs.Visit.{pieces_in_from, ShowsPieces, ShowsNames};
 ghost use Rattle.gpu_c.specs.declared.status.TheConstants.{OK, NO_HANDLE, HOST_OUT_OF_MEMORY, NO_SUCH_TYPE};
 
 use crate::allocator_handle::AllocatorHandle;
-use crate::allocator_values::{AllocatorMemory, TypeStatistics};
+use crate::allocator_values::{AllocatorBlock, TypeStatistics};
 use crate::allocator_visit::{
-    block, block_statistics, leak, piece_names, pieces, report, type_statistics,
+    block, block_statistics, leak, piece_names, pieces, report, type_capacity, type_statistics,
 };
 use crate::memory_type_values::MemoryBlockStatistics;
 use crate::status::{NO_HANDLE, OK};
@@ -39,7 +39,7 @@ pub extern "C" fn pilhangko_raw_allocator_type_statistics(
         → IsSomeAnd allocator.old.value (λ s. statistics.new ≡ type_counts s index) }
     ensures no_handle { (result ≡ status.no_handle) ↔ (allocator.old.value ≡ None) }
     ensures no_such_type { (result ≡ status.no_such_type)
-        ↔ IsSomeAnd allocator.old.value (λ s. length s.slots ≤ index) }
+        ↔ IsSomeAnd allocator.old.value (λ s. length s.requests.slots ≤ index) }
     ensures statuses { IsOneOf result (status.ok ∷ status.no_handle ∷ status.no_such_type ∷ []) }
     ensures same { allocator.new.value ≡ allocator.old.value }
     ensures refused { result ≢ status.ok → statistics.new ≡ statistics.old }
@@ -54,27 +54,56 @@ pub extern "C" fn pilhangko_raw_allocator_type_statistics(
     }
 }
 
-/// The memory of the block in a slot of a memory type, and whether it is mapped, for a visit of all blocks: slots are numbered from 0.
+/// The sum of the sizes of a memory type's blocks, in bytes. `NO_SUCH_TYPE` past the last memory type.
+#[unsafe(no_mangle)]
+pub extern "C" fn pilhangko_raw_allocator_type_capacity(
+    allocator: &mut AllocatorHandle,
+    alloc: Global,
+    index: usize,
+    bytes: &mut u64,
+) -> u32
+    ensures reported { result ≡ status.ok
+        → IsSomeAnd allocator.old.value
+        (λ s. bytes.new ≡ capacity_of (slots_at s.requests.slots index)) }
+    ensures no_handle { (result ≡ status.no_handle) ↔ (allocator.old.value ≡ None) }
+    ensures no_such_type { (result ≡ status.no_such_type)
+        ↔ IsSomeAnd allocator.old.value (λ s. length s.requests.slots ≤ index) }
+    ensures statuses { IsOneOf result (status.ok ∷ status.no_handle ∷ status.no_such_type
+        ∷ []) }
+    ensures same { allocator.new.value ≡ allocator.old.value }
+    ensures refused { result ≢ status.ok → bytes.new ≡ bytes.old }
+{
+    match allocator.take(alloc) {
+        None => NO_HANDLE,
+        Some(kept) => {
+            let status = type_capacity(&kept, index, bytes);
+            allocator.put(kept);
+            status
+        }
+    }
+}
+
+/// The block in a slot of a memory type, for a visit of all blocks: slots are numbered from 0.
 #[unsafe(no_mangle)]
 pub extern "C" fn pilhangko_raw_allocator_block(
     allocator: &mut AllocatorHandle,
     alloc: Global,
     index: usize,
     slot: usize,
-    memory: &mut AllocatorMemory,
+    shown: &mut AllocatorBlock,
 ) -> u32
     ensures reported { result ≡ status.ok
         → IsSomeAnd allocator.old.value
-        (λ s. memory.new ≡ memory_told (block_memory s index slot)) }
+        (λ s. shown.new ≡ block_told (block_at s index slot)) }
     ensures no_handle { (result ≡ status.no_handle) ↔ (allocator.old.value ≡ None) }
     ensures statuses { IsOneOf result (status.ok ∷ status.no_handle ∷ []) }
     ensures same { allocator.new.value ≡ allocator.old.value }
-    ensures refused { result ≢ status.ok → memory.new ≡ memory.old }
+    ensures refused { result ≢ status.ok → shown.new ≡ shown.old }
 {
     match allocator.take(alloc) {
         None => NO_HANDLE,
         Some(kept) => {
-            *memory = block(&kept, index, slot);
+            *shown = block(&kept, index, slot);
             allocator.put(kept);
             OK
         }
@@ -93,7 +122,7 @@ pub extern "C" fn pilhangko_raw_allocator_block_statistics(
     ensures reported { result ≡ status.ok
         → IsSomeAnd allocator.old.value
         (λ s. statistics.new ≡ block_counts
-        (statistics_in (slot_at (slots_at s.slots index) slot))) }
+        (statistics_in (slot_at (slots_at s.requests.slots index) slot))) }
     ensures no_handle { (result ≡ status.no_handle) ↔ (allocator.old.value ≡ None) }
     ensures statuses { IsOneOf result (status.ok ∷ status.no_handle ∷ []) }
     ensures same { allocator.new.value ≡ allocator.old.value }
@@ -123,7 +152,7 @@ pub extern "C" fn pilhangko_raw_allocator_pieces(
 ) -> u32
     ensures reported { result ≡ status.ok
         → IsSomeAnd allocator.old.value
-        (λ s. ShowsPieces (pieces_in_from from (pieces_in (slot_at (slots_at s.slots index) slot)))
+        (λ s. ShowsPieces (pieces_in_from from (pieces_in (slot_at (slots_at s.requests.slots index) slot)))
         views.old views.new count.new) }
     ensures no_handle { (result ≡ status.no_handle) ↔ (allocator.old.value ≡ None) }
     ensures statuses { IsOneOf result (status.ok ∷ status.no_handle ∷ []) }
@@ -155,7 +184,7 @@ pub extern "C" fn pilhangko_raw_allocator_piece_names(
 ) -> u32
     ensures reported { result ≡ status.ok
         → IsSomeAnd allocator.old.value
-        (λ s. ShowsNames (pieces_in_from from (pieces_in (slot_at (slots_at s.slots index) slot)))
+        (λ s. ShowsNames (pieces_in_from from (pieces_in (slot_at (slots_at s.requests.slots index) slot)))
         lengths.old lengths.new names.old names.new count.new) }
     ensures no_handle { (result ≡ status.no_handle) ↔ (allocator.old.value ≡ None) }
     ensures statuses { IsOneOf result (status.ok ∷ status.no_handle ∷ []) }
@@ -184,7 +213,7 @@ pub extern "C" fn pilhangko_raw_allocator_report(
 ) -> u32
     ensures reported { result ≡ status.ok
         → IsSomeAnd allocator.old.value
-        (λ s. ShowsText (report_json (whole_report s.slots)) text.old text.new whole.new) }
+        (λ s. ShowsText (report_json (whole_report s.requests.slots)) text.old text.new whole.new) }
     ensures host_out_of_memory { result ≡ status.host_out_of_memory → IsSome allocator.old.value }
     ensures no_handle { (result ≡ status.no_handle) ↔ (allocator.old.value ≡ None) }
     ensures statuses { IsOneOf result (status.ok ∷ status.no_handle ∷ status.host_out_of_memory
@@ -215,10 +244,10 @@ pub extern "C" fn pilhangko_raw_allocator_leak(
 ) -> u32
     ensures reported { result ≡ status.ok
         → IsSomeAnd allocator.old.value
-        (λ s. ShowsLeak (slice_get (all_leaks s.slots) number) text.old text.new whole.new) }
+        (λ s. ShowsLeak (slice_get (all_leaks s.requests.slots) number) text.old text.new whole.new) }
     ensures host_out_of_memory { result ≡ status.host_out_of_memory
         → IsSomeAnd allocator.old.value
-        (λ s. IsSome (slice_get (all_leaks s.slots) number)) }
+        (λ s. IsSome (slice_get (all_leaks s.requests.slots) number)) }
     ensures no_handle { (result ≡ status.no_handle) ↔ (allocator.old.value ≡ None) }
     ensures statuses { IsOneOf result (status.ok ∷ status.no_handle ∷ status.host_out_of_memory
         ∷ []) }

@@ -5,6 +5,7 @@ ghost use Rattle.std.specs.Prelude.{◌≡◌};
 
 use crate::allocator_handle::AllocatorHandle;
 use crate::memory_type_handle::MemoryTypeHandle;
+use crate::ring_handle::RingHandle;
 use crate::virtual_block_handle::VirtualBlockHandle;
 
 /// What may go to another thread, as it is.
@@ -33,4 +34,11 @@ pub fn sent_allocator(allocator: AllocatorHandle) -> AllocatorHandle
     ensures { result ≡ allocator }
 {
     sent(allocator)
+}
+
+/// A ring's handle may.
+pub fn sent_ring(ring: RingHandle) -> RingHandle
+    ensures { result ≡ ring }
+{
+    sent(ring)
 }

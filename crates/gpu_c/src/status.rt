@@ -62,6 +62,9 @@ pub const AWAITS_ANSWER: u32 = 104;
 /// No question is open, so that there is none to answer.
 pub const AWAITS_NO_ANSWER: u32 = 105;
 
+/// As many frames are in flight as create made room for: retire one first. Or frames are numbered up to 2^64 - 2.
+pub const TOO_MANY_FRAMES: u32 = 106;
+
 /// The status of a refusal.
 pub fn status_of(error: &AllocationError) -> u32
     ensures { result ≡ status_of error.now }

@@ -1,8 +1,8 @@
 use Rattle.std.proofs.Common.{arith, refl, sym, subst, ◌∙◌, Err, ℕ, [], ◌∷◌, inr}
-use Rattle.gpu_machine.specs.Begin.{Begins}
-use Rattle.gpu_machine.specs.Description.{description_of}
-use Rattle.gpu_machine.specs.State.{State}
-use Rattle.gpu_machine.proofs.Calling.{is_closed}
+use Rattle.gpu_machine.specs.VulkanBegin.{Begins}
+use Rattle.gpu_machine.specs.VulkanDescription.{description_of}
+use Rattle.gpu_c.specs.Allocator.{State}
+use Rattle.gpu_machine.proofs.VulkanBeginning.{is_closed}
 use Rattle.gpu_c.specs.Status as status
 use Rattle.gpu_c.specs.Status.{IsOneOf}
 use Rattle.gpu_c.proofs.AllocatorLaws.{begins_same}
@@ -12,14 +12,14 @@ use Rattle.gpu_c.proofs.allocator.begin.Goals as goal
 pub returns-in-Err-clause-invalid : goal.returns-in-Err-clause-invalid
 returns-in-Err-clause-invalid c = (
   λ is. absurd (not_invalid _
-      (begins_told c.args.machine.now c.begin.new.self c.in-Some.desc c.in-Err.error (is_closed c.args.machine.now.awaited _ c.if-awaits_answer.false c.awaits_answer.ensures)
+      (begins_told c.args.machine.now c.begin.new.self c.in-Some.desc c.in-Err.error (is_closed c.args.machine.now.requests.awaited _ c.if-awaits_answer.false c.awaits_answer.ensures)
       (says_valid c.args.request.now c.args.name.now c.in-Some.desc c.in-Some.ensures) c.in-Err.ensures.begins) (sym c.refusal_status.ensures ∙ is)),
   λ h. absurd (h.1 (description_of c.in-Some.desc) c.in-Some.ensures),
 )
 
 pub returns-in-Err-clause-denied : goal.returns-in-Err-clause-denied
 returns-in-Err-clause-denied c a b d = record {
-  idle = is_closed c.args.machine.now.awaited _ c.if-awaits_answer.false c.awaits_answer.ensures;
+  idle = is_closed c.args.machine.now.requests.awaited _ c.if-awaits_answer.false c.awaits_answer.ensures;
   desc = c.in-Some.desc;
   says = c.in-Some.ensures;
   cause = c.in-Err.error;
@@ -31,7 +31,7 @@ returns-in-Err-clause-denied c a b d = record {
 pub returns-in-Err-clause-statuses : goal.returns-in-Err-clause-statuses
 returns-in-Err-clause-statuses c = inr (inr (inr
     (subst (λ (n : ℕ). IsOneOf n (status.no_memory_type ∷ status.out_of_memory ∷ status.host_out_of_memory ∷ status.budget_exceeded ∷ [])) (sym c.refusal_status.ensures)
-    (begins_told c.args.machine.now c.begin.new.self c.in-Some.desc c.in-Err.error (is_closed c.args.machine.now.awaited _ c.if-awaits_answer.false c.awaits_answer.ensures)
+    (begins_told c.args.machine.now c.begin.new.self c.in-Some.desc c.in-Err.error (is_closed c.args.machine.now.requests.awaited _ c.if-awaits_answer.false c.awaits_answer.ensures)
     (says_valid c.args.request.now c.args.name.now c.in-Some.desc c.in-Some.ensures) c.in-Err.ensures.begins))))
 
 pub returns-in-Err-clause-refused : goal.returns-in-Err-clause-refused

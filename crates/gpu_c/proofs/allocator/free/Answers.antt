@@ -1,11 +1,11 @@
 use Rattle.std.proofs.Common.{arith}
-use Rattle.gpu_machine.proofs.Calling.{is_closed}
+use Rattle.gpu_machine.proofs.VulkanBeginning.{is_closed}
 use Rattle.gpu_c.proofs.AllocatorLaws.{is_live, freed_lived}
 use Rattle.gpu_c.proofs.allocator.free.Goals as goal
 
 pub returns-in-Ok-clause-freed : goal.returns-in-Ok-clause-freed
 returns-in-Ok-clause-freed c ok = record {
-  idle = is_closed c.args.machine.now.awaited _ c.if-awaits_answer.false c.awaits_answer.ensures;
+  idle = is_closed c.args.machine.now.requests.awaited _ c.if-awaits_answer.false c.awaits_answer.ensures;
   piece = c.in-Some.named;
   named = c.in-Some.ensures;
   back = c.in-Ok.went;

@@ -1,6 +1,7 @@
 use Rattle.std.proofs.Common.{arith, List, ℕ, Ok, subst}
-use Rattle.gpu_machine.specs.Calls.{Renames}
-use Rattle.gpu_machine.proofs.Calling.{is_closed}
+use Rattle.gpu_pool.specs.Idle.{RenamesIdle}
+use Rattle.gpu_c.specs.Allocator.{is_same_block}
+use Rattle.gpu_machine.proofs.VulkanBeginning.{is_closed}
 use Rattle.gpu_c.proofs.AllocatorLaws.{is_live}
 use Rattle.gpu_c.proofs.allocator.rename.Goals as goal
 
@@ -12,7 +13,7 @@ returns-in-Err-clause-not_live c = (
 
 pub returns-in-Err-clause-host_out_of_memory : goal.returns-in-Err-clause-host_out_of_memory
 returns-in-Err-clause-host_out_of_memory c is = (
-  is_closed c.args.machine.now.awaited _ c.if-awaits_answer.false c.awaits_answer.ensures,
+  is_closed c.args.machine.now.requests.awaited _ c.if-awaits_answer.false c.awaits_answer.ensures,
   c.in-Ok.ensures.cases.1,
   is_live c.args.machine.now c.args.piece.now c.in-Some.named c.in-Some.ensures (c.is_live.ensures.0 c.if-not-is_live.false),
 )
@@ -21,10 +22,11 @@ pub returns-in-Ok-rename-clause-renamed : goal.returns-in-Ok-rename-clause-renam
 returns-in-Ok-rename-clause-renamed c ok = (
   c.in-Ok.ensures.cases.1,
   record {
-    idle = is_closed c.args.machine.now.awaited _ c.if-awaits_answer.false c.awaits_answer.ensures;
+    idle = is_closed c.args.machine.now.requests.awaited _ c.if-awaits_answer.false c.awaits_answer.ensures;
     piece = c.in-Some.named;
     named = c.in-Some.ensures;
-    renames = subst (λ (name : List ℕ). Renames c.args.machine.now c.args.piece.now.memory_type c.in-Some.named name (Ok tt) c.rename.new.self) c.in-Ok.ensures.cases.0 c.in-Ok-rename.ensures.renames;
+    renames = subst (λ (name : List ℕ). RenamesIdle is_same_block c.args.machine.now.requests c.args.piece.now.memory_type c.in-Some.named name (Ok tt) c.rename.new.self.requests) c.in-Ok.ensures.cases.0 c.in-Ok-rename.ensures.renames;
+    others = c.in-Ok-rename.ensures.others;
   },
 )
 
