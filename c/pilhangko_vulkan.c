@@ -1,5 +1,5 @@
 /* Pilhangko's Vulkan binding (include/pilhangko_vulkan.h): compile it with the program, as C11 or as C++11. It asks the driver what the
- * allocator wants to know, and keeps a record of each block; the allocator decides all else. */
+ * allocator wants to know; the allocator decides all else, and keeps what it decided. */
 #include "pilhangko_vulkan.h"
 #include <inttypes.h>
 #include <stdio.h>
@@ -8,6 +8,45 @@
 #include <atomic>
 #elif defined(_MSC_VER)
 #include <intrin.h>
+#endif
+#if defined(_WIN32)
+#define WIN32_LEAN_AND_MEAN
+#include <windows.h>
+#else
+#include <pthread.h>
+#endif
+
+/* ---- the lock ---- */
+
+#if defined(_WIN32)
+typedef SRWLOCK mutex;
+static bool make_mutex(mutex *m) {
+    InitializeSRWLock(m);
+    return true;
+}
+static void lock_mutex(mutex *m) {
+    AcquireSRWLockExclusive(m);
+}
+static void unlock_mutex(mutex *m) {
+    ReleaseSRWLockExclusive(m);
+}
+static void drop_mutex(mutex *m) {
+    (void)m;
+}
+#else
+typedef pthread_mutex_t mutex;
+static bool make_mutex(mutex *m) {
+    return pthread_mutex_init(m, NULL) == 0;
+}
+static void lock_mutex(mutex *m) {
+    (void)pthread_mutex_lock(m);
+}
+static void unlock_mutex(mutex *m) {
+    (void)pthread_mutex_unlock(m);
+}
+static void drop_mutex(mutex *m) {
+    (void)pthread_mutex_destroy(m);
+}
 #endif
 
 /* ---- records ---- */
@@ -19,16 +58,6 @@ struct table {
     uint32_t count, room, spare;
 };
 #define NO_RECORD UINT32_MAX
-
-/* A block of memory that the driver gave. The allocator knows it by its index among the records. */
-struct block {
-    uint32_t next_spare;
-    uint32_t next_in_chain; /* the index of the next block whose memory hashes alike, or NO_RECORD */
-    uint32_t memory_type;
-    VkDeviceMemory memory; /* VK_NULL_HANDLE of a spare record */
-    void *mapped;          /* the whole block, as long as it lives; NULL where the host can't see it */
-    VkDeviceSize size;
-};
 
 /* A live allocation. Its serial number never comes again, so one that was freed is told apart from each later one. */
 struct live {
@@ -63,19 +92,29 @@ struct binding {
     VkPhysicalDevice physical_device;
     VkDevice device;
     uint32_t api_version;
-    bool memory_budget;
+    bool memory_budget, device_address;
+    bool is_locked_outside; /* whether the caller sees to it that one call is made at a time */
+    mutex lock;             /* of the allocator, the live allocations and the capture */
     VkPhysicalDeviceMemoryProperties properties;
     VkDeviceSize atom; /* nonCoherentAtomSize */
-    struct table blocks, live;
-    uint32_t *chains;                       /* the index of the first block of each chain, or NO_RECORD */
-    uint32_t chain_count;                   /* a power of two, or 0 */
-    VkDeviceSize held[VK_MAX_MEMORY_TYPES]; /* the sum of the blocks' sizes */
+    struct table live;
     uint64_t last_serial, live_count;
     struct capture capture;
 };
 
 static struct binding *binding_of(const pilhangko_vulkan *vulkan) {
     return (struct binding *)vulkan->opaque;
+}
+
+/* From here on until `leave` no other thread is in a call that looks at the allocator, the live allocations or the capture. */
+static struct binding *enter(const struct binding *binding) {
+    struct binding *b = (struct binding *)binding;
+    if (!b->is_locked_outside) lock_mutex(&b->lock);
+    return b;
+}
+
+static void leave(struct binding *b) {
+    if (!b->is_locked_outside) unlock_mutex(&b->lock);
 }
 
 static const VkAllocationCallbacks *callbacks_of(const struct binding *b) {
@@ -129,52 +168,6 @@ static uint32_t spare_record(struct table *table) {
     const uint32_t index = table->spare;
     table->spare = *(uint32_t *)record_of(table, index);
     return index;
-}
-
-static struct block *block_at(const struct binding *b, uint64_t index) {
-    return (struct block *)record_of(&b->blocks, (uint32_t)index);
-}
-
-/* The place that has the index of the first block of a memory's chain. */
-static uint32_t *chain_of(const struct binding *b, VkDeviceMemory memory) {
-    const uint64_t hash = (uint64_t)memory * UINT64_C(0x9E3779B97F4A7C15);
-    return &b->chains[hash >> 32 & (b->chain_count - 1)];
-}
-
-static void link_block(struct binding *b, uint32_t index) {
-    struct block *block = block_at(b, index);
-    uint32_t *first = chain_of(b, block->memory);
-    block->next_in_chain = *first;
-    *first = index;
-}
-
-static void unlink_block(struct binding *b, uint32_t index) {
-    const struct block *block = block_at(b, index);
-    uint32_t *at = chain_of(b, block->memory);
-    while (*at != index) at = &block_at(b, *at)->next_in_chain;
-    *at = block->next_in_chain;
-}
-
-/* Whether a block has that memory: the driver may not give it twice. */
-static bool is_held(const struct binding *b, VkDeviceMemory memory) {
-    uint32_t index = *chain_of(b, memory);
-    while (index != NO_RECORD && block_at(b, index)->memory != memory) index = block_at(b, index)->next_in_chain;
-    return index != NO_RECORD;
-}
-
-/* Whether there are as many chains as there is room for blocks; makes them where there are fewer. */
-static bool has_chains(struct binding *b) {
-    uint32_t *chains;
-    if (b->chain_count == b->blocks.room) return true;
-    chains = (uint32_t *)malloc(b->blocks.room * sizeof *chains);
-    if (!chains) return false;
-    free(b->chains);
-    b->chains = chains;
-    b->chain_count = b->blocks.room;
-    for (uint32_t i = 0; i < b->chain_count; i++) chains[i] = NO_RECORD;
-    for (uint32_t i = 0; i < b->blocks.count; i++)
-        if (block_at(b, i)->memory != VK_NULL_HANDLE) link_block(b, i);
-    return true;
 }
 
 /* The record of an allocation, or NULL where it isn't live or another binding's. */
@@ -391,49 +384,26 @@ static pilhangko_vulkan_capture end_capture(struct binding *b, const char *last_
     return told;
 }
 
-/* ---- blocks ---- */
-
-/* Keeps memory in a spare record; returns its number. */
-static uint64_t keep_block(struct binding *b, VkDeviceMemory memory, void *mapped, const pilhangko_allocator_question *question) {
-    const uint32_t index = spare_record(&b->blocks);
-    struct block *block = block_at(b, index);
-    block->memory_type = question->memory_type;
-    block->memory = memory;
-    block->mapped = mapped;
-    block->size = question->size;
-    b->held[block->memory_type] += block->size;
-    link_block(b, index);
-    return index;
-}
-
-/* Gives a block back to the driver. */
-static void give_back(struct binding *b, uint32_t index) {
-    const struct block *block = block_at(b, index);
-    unlink_block(b, index);
-    if (block->mapped) b->functions.vkUnmapMemory(b->device, block->memory);
-    b->functions.vkFreeMemory(b->device, block->memory, callbacks_of(b));
-    b->held[block->memory_type] -= block->size;
-    make_spare(&b->blocks, index);
-}
-
 /* ---- asking the driver ---- */
 
-static VkResult ask_memory(const struct binding *b, const pilhangko_allocator_question *question, VkDeviceMemory *memory) {
+/* Asks for memory, for the resource alone that the request names, if it names one. */
+static VkResult ask_memory(const struct binding *b, const pilhangko_allocator_request *request,
+    const pilhangko_allocator_question *question, VkDeviceMemory *memory) {
     VkMemoryAllocateInfo info;
     VkMemoryDedicatedAllocateInfo alone;
     VkMemoryAllocateFlagsInfo flags;
     memset(&info, 0, sizeof info);
     info.sType = VK_STRUCTURE_TYPE_MEMORY_ALLOCATE_INFO;
     info.allocationSize = question->size;
-    info.memoryTypeIndex = question->memory_type;
-    if (question->scheme != PILHANGKO_SCHEME_MANAGED && b->api_version >= VK_API_VERSION_1_1) {
+    info.memoryTypeIndex = (uint32_t)question->memory_type;
+    if (request->scheme != PILHANGKO_SCHEME_MANAGED && b->api_version >= VK_API_VERSION_1_1) {
         memset(&alone, 0, sizeof alone);
         alone.sType = VK_STRUCTURE_TYPE_MEMORY_DEDICATED_ALLOCATE_INFO;
-        if (question->scheme == PILHANGKO_SCHEME_BUFFER) alone.buffer = (VkBuffer)question->resource;
-        else alone.image = (VkImage)question->resource;
+        if (request->scheme == PILHANGKO_SCHEME_BUFFER) alone.buffer = (VkBuffer)request->resource;
+        else alone.image = (VkImage)request->resource;
         info.pNext = &alone;
     }
-    if (question->device_address) {
+    if (b->device_address) {
         memset(&flags, 0, sizeof flags);
         flags.sType = VK_STRUCTURE_TYPE_MEMORY_ALLOCATE_FLAGS_INFO;
         flags.pNext = info.pNext;
@@ -455,7 +425,7 @@ static void note_refusal(struct asked *asked, bool is_null, int32_t code, VkResu
 static pilhangko_status memory_refused(
     struct binding *b, struct asked *asked, VkResult driver, VkDeviceMemory memory, pilhangko_allocator_progress *progress) {
     bool is_null = driver == VK_SUCCESS && memory == VK_NULL_HANDLE;
-    int32_t code = is_null ? VK_ERROR_OUT_OF_DEVICE_MEMORY : driver == VK_SUCCESS ? VK_ERROR_UNKNOWN : driver;
+    int32_t code = is_null ? VK_ERROR_OUT_OF_DEVICE_MEMORY : driver;
     note_refusal(asked, is_null, code, driver);
     return pilhangko_allocator_refused(&b->allocator, code, progress);
 }
@@ -469,20 +439,21 @@ static pilhangko_status mapping_refused(
 }
 
 /* Asks the driver the question that is open, and tells the answer. */
-static pilhangko_status ask(struct binding *b, struct asked *asked, pilhangko_allocator_progress *progress) {
+static pilhangko_status ask(
+    struct binding *b, const pilhangko_allocator_request *request, struct asked *asked, pilhangko_allocator_progress *progress) {
     const pilhangko_allocator_question question = progress->question;
     void *mapped = NULL;
     VkDeviceMemory memory;
-    VkResult driver = ask_memory(b, &question, &memory);
+    VkResult driver = ask_memory(b, request, &question, &memory);
     asked->questions++;
-    if (driver != VK_SUCCESS || memory == VK_NULL_HANDLE || is_held(b, memory)) return memory_refused(b, asked, driver, memory, progress);
+    if (driver != VK_SUCCESS || memory == VK_NULL_HANDLE) return memory_refused(b, asked, driver, memory, progress);
     if (question.mapped) {
         driver = b->functions.vkMapMemory(b->device, memory, 0, VK_WHOLE_SIZE, 0, &mapped);
         asked->questions++;
         if (driver != VK_SUCCESS || !mapped) return mapping_refused(b, asked, driver, memory, progress);
     }
     progress->kind = PILHANGKO_PROGRESS_PIECE;
-    return pilhangko_allocator_granted(&b->allocator, keep_block(b, memory, mapped, &question), &progress->piece);
+    return pilhangko_allocator_granted(&b->allocator, (uint64_t)memory, (uintptr_t)mapped, &progress->piece);
 }
 
 /* ---- memory ---- */
@@ -519,7 +490,7 @@ static void keep_allocation(
     it->serial = ++b->last_serial;
     it->piece = *piece;
     b->live_count++;
-    allocation->memory = block_at(b, piece->piece.block)->memory;
+    allocation->memory = (VkDeviceMemory)piece->piece.block;
     allocation->offset = piece->piece.offset;
     allocation->size = piece->piece.size;
     allocation->dedicated = dedicated;
@@ -529,7 +500,7 @@ static void keep_allocation(
     allocation->index = index;
 }
 
-static pilhangko_vulkan_result allocate(
+static pilhangko_vulkan_result allocate_alone(
     struct binding *b, const pilhangko_vulkan_request *request, pilhangko_vulkan_allocation *allocation) {
     pilhangko_allocator_request asks;
     pilhangko_allocator_progress progress;
@@ -537,10 +508,10 @@ static pilhangko_vulkan_result allocate(
     pilhangko_status status = asks_for(b, request, &asks);
     if (status != PILHANGKO_OK) return undriven(status);
     /* before the driver is asked, so that nothing can fail behind its grant */
-    if (!has_spare(&b->blocks) || !has_chains(b) || !has_spare(&b->live)) return undriven(PILHANGKO_HOST_OUT_OF_MEMORY);
+    if (!has_spare(&b->live)) return undriven(PILHANGKO_HOST_OUT_OF_MEMORY);
     memset(&asked, 0, sizeof asked);
     status = pilhangko_allocator_begin(&b->allocator, &asks, request->name, &progress);
-    while (status == PILHANGKO_OK && progress.kind == PILHANGKO_PROGRESS_QUESTION) status = ask(b, &asked, &progress);
+    while (status == PILHANGKO_OK && progress.kind == PILHANGKO_PROGRESS_QUESTION) status = ask(b, &asks, &asked, &progress);
     if (status == PILHANGKO_OK) status = progress.status;
     capture_allocation(b, &asks, request->name, status, &asked);
     if (status != PILHANGKO_OK) return result_of(status, asked.driver);
@@ -548,7 +519,21 @@ static pilhangko_vulkan_result allocate(
     return undriven(PILHANGKO_OK);
 }
 
-static pilhangko_status free_allocation(struct binding *b, const pilhangko_vulkan_allocation *allocation) {
+/* Gives memory back to the driver. */
+static void give_back(const struct binding *b, uint64_t memory, bool mapped) {
+    if (mapped) b->functions.vkUnmapMemory(b->device, (VkDeviceMemory)memory);
+    b->functions.vkFreeMemory(b->device, (VkDeviceMemory)memory, callbacks_of(b));
+}
+
+static pilhangko_vulkan_result allocate(
+    struct binding *binding, const pilhangko_vulkan_request *request, pilhangko_vulkan_allocation *allocation) {
+    struct binding *b = enter(binding);
+    const pilhangko_vulkan_result result = allocate_alone(b, request, allocation);
+    leave(b);
+    return result;
+}
+
+static pilhangko_status free_alone(struct binding *b, const pilhangko_vulkan_allocation *allocation) {
     const struct live *it = find(b, allocation);
     pilhangko_allocator_memory back;
     pilhangko_status status;
@@ -558,8 +543,24 @@ static pilhangko_status free_allocation(struct binding *b, const pilhangko_vulka
     capture_free(b, it->serial);
     make_spare(&b->live, allocation->index);
     b->live_count--;
-    if (back.exists) give_back(b, (uint32_t)back.memory);
+    if (back.exists) give_back(b, back.memory, back.mapped);
     return PILHANGKO_OK;
+}
+
+static pilhangko_status free_allocation(struct binding *binding, const pilhangko_vulkan_allocation *allocation) {
+    struct binding *b = enter(binding);
+    const pilhangko_status status = free_alone(b, allocation);
+    leave(b);
+    return status;
+}
+
+/* A copy of a live allocation's piece; false where it isn't live. */
+static bool live_piece(const struct binding *binding, const pilhangko_vulkan_allocation *allocation, pilhangko_allocator_piece *piece) {
+    struct binding *b = enter(binding);
+    const struct live *it = find(b, allocation);
+    if (it) *piece = it->piece;
+    leave(b);
+    return it != NULL;
 }
 
 pilhangko_vulkan_result PILHANGKO_CALL pilhangko_vulkan_allocate(
@@ -576,22 +577,20 @@ pilhangko_status PILHANGKO_CALL pilhangko_vulkan_free(pilhangko_vulkan *vulkan, 
 }
 
 void *PILHANGKO_CALL pilhangko_vulkan_mapped(const pilhangko_vulkan *vulkan, const pilhangko_vulkan_allocation *allocation) {
-    const struct live *it;
-    char *mapped;
+    pilhangko_allocator_piece piece;
     if (!vulkan || !allocation || !vulkan->opaque) return NULL;
-    it = find(binding_of(vulkan), allocation);
-    if (!it) return NULL;
-    mapped = (char *)block_at(binding_of(vulkan), it->piece.piece.block)->mapped;
-    return mapped ? mapped + it->piece.piece.offset : NULL;
+    if (!live_piece(binding_of(vulkan), allocation, &piece) || piece.address == 0) return NULL;
+    return (char *)(uintptr_t)piece.address + piece.piece.offset;
 }
 
 /* The range of a block that a flush of a piece's bytes is about: whole units of nonCoherentAtomSize, or up to the block's end. */
-static VkMappedMemoryRange whole_atoms(const struct block *block, VkDeviceSize atom, VkDeviceSize first, VkDeviceSize size) {
+static VkMappedMemoryRange whole_atoms(
+    const pilhangko_allocator_live_block *block, VkDeviceSize atom, VkDeviceSize first, VkDeviceSize size) {
     const VkDeviceSize begin = first & ~(atom - 1), end = first + size;
     VkMappedMemoryRange range;
     memset(&range, 0, sizeof range);
     range.sType = VK_STRUCTURE_TYPE_MAPPED_MEMORY_RANGE;
-    range.memory = block->memory;
+    range.memory = (VkDeviceMemory)block->memory;
     range.offset = begin;
     range.size = end - begin;
     /* up to the next unit, unless the block ends before it; the sum could pass 2^64 */
@@ -599,27 +598,68 @@ static VkMappedMemoryRange whole_atoms(const struct block *block, VkDeviceSize a
     return range;
 }
 
-static pilhangko_vulkan_result flush(
-    const struct binding *b, const pilhangko_vulkan_allocation *allocation, VkDeviceSize offset, VkDeviceSize size, bool invalidates) {
-    const struct live *it = find(b, allocation);
-    const pilhangko_memory_piece *piece;
-    const struct block *block;
+/* The live block that a piece lies in. */
+static pilhangko_status block_of(const struct binding *binding, const pilhangko_allocator_piece *piece, pilhangko_allocator_live_block *block) {
+    struct binding *b = enter(binding);
+    const pilhangko_status status = pilhangko_allocator_block(&b->allocator, piece->memory_type, piece->piece.slot, block);
+    leave(b);
+    return status;
+}
+
+/* Bytes of a live mapped allocation: the piece, and so many bytes from an offset in it on. */
+struct bytes {
+    pilhangko_allocator_piece live;
+    VkDeviceSize offset, size;
+};
+
+/* All from the offset on. */
+static pilhangko_status find_rest(
+    const struct binding *b, const pilhangko_vulkan_allocation *allocation, VkDeviceSize offset, struct bytes *bytes) {
+    if (!live_piece(b, allocation, &bytes->live)) return PILHANGKO_NOT_LIVE;
+    if (bytes->live.address == 0) return PILHANGKO_VULKAN_NOT_MAPPED;
+    if (offset > bytes->live.piece.size) return PILHANGKO_VULKAN_OUT_OF_RANGE;
+    bytes->offset = offset;
+    bytes->size = bytes->live.piece.size - offset;
+    return PILHANGKO_OK;
+}
+
+/* So many of them. */
+static pilhangko_status find_bytes(const struct binding *b, const pilhangko_vulkan_allocation *allocation, VkDeviceSize offset,
+    VkDeviceSize size, struct bytes *bytes) {
+    const pilhangko_status status = find_rest(b, allocation, offset, bytes);
+    if (status != PILHANGKO_OK) return status;
+    if (size > bytes->size) return PILHANGKO_VULKAN_OUT_OF_RANGE;
+    bytes->size = size;
+    return PILHANGKO_OK;
+}
+
+/* Where the host sees the first of them. */
+static char *address_of(const struct bytes *bytes) {
+    return (char *)(uintptr_t)bytes->live.address + bytes->live.piece.offset + bytes->offset;
+}
+
+/* Flushes or invalidates them, where their memory needs that. */
+static pilhangko_vulkan_result make_visible(const struct binding *b, const struct bytes *bytes, bool invalidates) {
+    pilhangko_allocator_live_block block;
+    pilhangko_status status;
     VkMappedMemoryRange range;
     VkResult driver;
-    if (!it) return undriven(PILHANGKO_NOT_LIVE);
-    piece = &it->piece.piece;
-    block = block_at(b, piece->block);
-    if (!block->mapped) return undriven(PILHANGKO_VULKAN_NOT_MAPPED);
-    if (offset > piece->size) return undriven(PILHANGKO_VULKAN_OUT_OF_RANGE);
-    if (size == VK_WHOLE_SIZE) size = piece->size - offset;
-    if (size > piece->size - offset) return undriven(PILHANGKO_VULKAN_OUT_OF_RANGE);
-    if (size == 0 || (b->properties.memoryTypes[block->memory_type].propertyFlags & VK_MEMORY_PROPERTY_HOST_COHERENT_BIT))
+    if (bytes->size == 0 || (b->properties.memoryTypes[bytes->live.memory_type].propertyFlags & VK_MEMORY_PROPERTY_HOST_COHERENT_BIT))
         return undriven(PILHANGKO_OK);
-    range = whole_atoms(block, b->atom, piece->offset + offset, size);
+    status = block_of(b, &bytes->live, &block);
+    if (status != PILHANGKO_OK) return undriven(status);
+    range = whole_atoms(&block, b->atom, bytes->live.piece.offset + bytes->offset, bytes->size);
     driver = invalidates ? b->functions.vkInvalidateMappedMemoryRanges(b->device, 1, &range)
                          : b->functions.vkFlushMappedMemoryRanges(b->device, 1, &range);
-    if (driver != VK_SUCCESS) return result_of(PILHANGKO_VULKAN_CALL_FAILED, driver);
-    return undriven(PILHANGKO_OK);
+    return driver == VK_SUCCESS ? undriven(PILHANGKO_OK) : result_of(PILHANGKO_VULKAN_CALL_FAILED, driver);
+}
+
+static pilhangko_vulkan_result flush(
+    const struct binding *b, const pilhangko_vulkan_allocation *allocation, VkDeviceSize offset, VkDeviceSize size, bool invalidates) {
+    struct bytes bytes;
+    const pilhangko_status status =
+        size == VK_WHOLE_SIZE ? find_rest(b, allocation, offset, &bytes) : find_bytes(b, allocation, offset, size, &bytes);
+    return status == PILHANGKO_OK ? make_visible(b, &bytes, invalidates) : undriven(status);
 }
 
 pilhangko_vulkan_result PILHANGKO_CALL pilhangko_vulkan_flush(
@@ -636,40 +676,100 @@ pilhangko_vulkan_result PILHANGKO_CALL pilhangko_vulkan_invalidate(
     return flush(binding_of(vulkan), allocation, offset, size, true);
 }
 
+pilhangko_vulkan_result PILHANGKO_CALL pilhangko_vulkan_copy_to(const pilhangko_vulkan *vulkan, const void *from, size_t size,
+    const pilhangko_vulkan_allocation *allocation, VkDeviceSize offset) {
+    struct bytes bytes;
+    pilhangko_status status;
+    if (!vulkan || (!from && size) || !allocation) return undriven(PILHANGKO_NULL_POINTER);
+    if (!vulkan->opaque) return undriven(PILHANGKO_NO_HANDLE);
+    status = find_bytes(binding_of(vulkan), allocation, offset, size, &bytes);
+    if (status != PILHANGKO_OK) return undriven(status);
+    if (size > 0) memcpy(address_of(&bytes), from, size);
+    return make_visible(binding_of(vulkan), &bytes, false);
+}
+
+pilhangko_vulkan_result PILHANGKO_CALL pilhangko_vulkan_copy_from(const pilhangko_vulkan *vulkan,
+    const pilhangko_vulkan_allocation *allocation, VkDeviceSize offset, void *to, size_t size) {
+    struct bytes bytes;
+    pilhangko_status status;
+    pilhangko_vulkan_result result;
+    if (!vulkan || !allocation || (!to && size)) return undriven(PILHANGKO_NULL_POINTER);
+    if (!vulkan->opaque) return undriven(PILHANGKO_NO_HANDLE);
+    status = find_bytes(binding_of(vulkan), allocation, offset, size, &bytes);
+    if (status != PILHANGKO_OK) return undriven(status);
+    result = make_visible(binding_of(vulkan), &bytes, true);
+    if (result.status == PILHANGKO_OK && size > 0) memcpy(to, address_of(&bytes), size);
+    return result;
+}
+
 pilhangko_status PILHANGKO_CALL pilhangko_vulkan_rename(
     pilhangko_vulkan *vulkan, const pilhangko_vulkan_allocation *allocation, const char *name) {
+    struct binding *b;
     const struct live *it;
     pilhangko_allocator_piece none;
     pilhangko_status status;
     if (!vulkan || !allocation) return PILHANGKO_NULL_POINTER;
     if (!vulkan->opaque) return PILHANGKO_NO_HANDLE;
-    it = find(binding_of(vulkan), allocation);
+    b = enter(binding_of(vulkan));
+    it = find(b, allocation);
     memset(&none, 0, sizeof none); /* no live piece: the name is looked at first all the same */
-    status = pilhangko_allocator_rename(&binding_of(vulkan)->allocator, it ? &it->piece : &none, name);
-    if (status == PILHANGKO_OK) capture_rename(binding_of(vulkan), allocation->serial, name);
+    status = pilhangko_allocator_rename(&b->allocator, it ? &it->piece : &none, name);
+    if (status == PILHANGKO_OK) capture_rename(b, allocation->serial, name);
+    leave(b);
     return status;
 }
 
 pilhangko_status PILHANGKO_CALL pilhangko_vulkan_is_live(
     const pilhangko_vulkan *vulkan, const pilhangko_vulkan_allocation *allocation, bool *is_live) {
+    pilhangko_allocator_piece piece;
     if (!vulkan || !allocation || !is_live) return PILHANGKO_NULL_POINTER;
     if (!vulkan->opaque) return PILHANGKO_NO_HANDLE;
-    *is_live = find(binding_of(vulkan), allocation) != NULL;
+    *is_live = live_piece(binding_of(vulkan), allocation, &piece);
     return PILHANGKO_OK;
 }
 
 pilhangko_status PILHANGKO_CALL pilhangko_vulkan_capacity(const pilhangko_vulkan *vulkan, VkDeviceSize *bytes) {
+    struct binding *b;
     uint64_t sum;
     pilhangko_status status;
     if (!vulkan || !bytes) return PILHANGKO_NULL_POINTER;
     if (!vulkan->opaque) return PILHANGKO_NO_HANDLE;
-    status = pilhangko_allocator_capacity(&binding_of(vulkan)->allocator, &sum);
+    b = enter(binding_of(vulkan));
+    status = pilhangko_allocator_capacity(&b->allocator, &sum);
+    leave(b);
     if (status == PILHANGKO_OK) *bytes = sum;
     return status;
 }
 
 const pilhangko_allocator *PILHANGKO_CALL pilhangko_vulkan_allocator(const pilhangko_vulkan *vulkan) {
     return vulkan && vulkan->opaque ? &binding_of(vulkan)->allocator : NULL;
+}
+
+pilhangko_status PILHANGKO_CALL pilhangko_vulkan_lock(const pilhangko_vulkan *vulkan) {
+    if (!vulkan) return PILHANGKO_NULL_POINTER;
+    if (!vulkan->opaque) return PILHANGKO_NO_HANDLE;
+    (void)enter(binding_of(vulkan));
+    return PILHANGKO_OK;
+}
+
+pilhangko_status PILHANGKO_CALL pilhangko_vulkan_unlock(const pilhangko_vulkan *vulkan) {
+    if (!vulkan) return PILHANGKO_NULL_POINTER;
+    if (!vulkan->opaque) return PILHANGKO_NO_HANDLE;
+    leave(binding_of(vulkan));
+    return PILHANGKO_OK;
+}
+
+pilhangko_status PILHANGKO_CALL pilhangko_vulkan_read_device(const pilhangko_vulkan *vulkan, pilhangko_vulkan_device *read) {
+    const struct binding *b;
+    if (!vulkan || !read) return PILHANGKO_NULL_POINTER;
+    b = binding_of(vulkan);
+    if (!b) return PILHANGKO_NO_HANDLE;
+    read->physical_device = b->physical_device;
+    read->device = b->device;
+    read->functions = &b->functions;
+    read->allocation_callbacks = callbacks_of(b);
+    read->api_version = b->api_version;
+    return PILHANGKO_OK;
 }
 
 /* ---- buffers and images ---- */
@@ -808,7 +908,8 @@ pilhangko_vulkan_result PILHANGKO_CALL pilhangko_vulkan_create_image(pilhangko_v
 
 /* The resource goes before its memory, as the driver wants it. */
 static pilhangko_status destroy_placed(struct binding *b, const struct resource *r, const pilhangko_vulkan_allocation *allocation) {
-    if (!find(b, allocation)) return PILHANGKO_NOT_LIVE;
+    pilhangko_allocator_piece piece;
+    if (!live_piece(b, allocation, &piece)) return PILHANGKO_NOT_LIVE;
     destroy_resource(b, r);
     return free_allocation(b, allocation);
 }
@@ -830,6 +931,15 @@ pilhangko_status PILHANGKO_CALL pilhangko_vulkan_destroy_image(
 }
 
 /* ---- budgets ---- */
+
+/* The sum of the sizes of a memory type's blocks. */
+static VkDeviceSize held_of_type(const struct binding *binding, uint32_t memory_type) {
+    struct binding *b = enter(binding);
+    uint64_t bytes = 0;
+    const pilhangko_status status = pilhangko_allocator_type_capacity(&b->allocator, memory_type, &bytes);
+    leave(b);
+    return status == PILHANGKO_OK ? bytes : 0;
+}
 
 /* What the driver tells of its heaps now. */
 static void read_budgets(const struct binding *b, VkPhysicalDeviceMemoryBudgetPropertiesEXT *budgets) {
@@ -853,7 +963,7 @@ pilhangko_status PILHANGKO_CALL pilhangko_vulkan_read_heap(const pilhangko_vulka
     read->size = b->properties.memoryHeaps[heap].size;
     read->flags = b->properties.memoryHeaps[heap].flags;
     for (uint32_t i = 0; i < b->properties.memoryTypeCount; i++)
-        if (b->properties.memoryTypes[i].heapIndex == heap) read->held += b->held[i];
+        if (b->properties.memoryTypes[i].heapIndex == heap) read->held += held_of_type(b, i);
     read->has_budget = b->memory_budget;
     if (!b->memory_budget) return PILHANGKO_OK;
     read_budgets(b, &budgets);
@@ -862,9 +972,11 @@ pilhangko_status PILHANGKO_CALL pilhangko_vulkan_read_heap(const pilhangko_vulka
     return PILHANGKO_OK;
 }
 
-static pilhangko_status set_budget(struct binding *b, uint32_t memory_type, bool has_budget, VkDeviceSize bytes) {
+static pilhangko_status set_budget(struct binding *binding, uint32_t memory_type, bool has_budget, VkDeviceSize bytes) {
+    struct binding *b = enter(binding);
     const pilhangko_status status = pilhangko_allocator_set_budget(&b->allocator, memory_type, has_budget, bytes);
     if (status == PILHANGKO_OK) b->capture.has_new_budgets = true;
+    leave(b);
     return status;
 }
 
@@ -880,7 +992,7 @@ pilhangko_status PILHANGKO_CALL pilhangko_vulkan_update_budgets(pilhangko_vulkan
     for (uint32_t i = 0; i < b->properties.memoryTypeCount && status == PILHANGKO_OK; i++) {
         const uint32_t heap = b->properties.memoryTypes[i].heapIndex;
         const VkDeviceSize usage = budgets.heapUsage[heap], budget = budgets.heapBudget[heap];
-        const VkDeviceSize left = budget > usage ? budget - usage : 0, held = b->held[i];
+        const VkDeviceSize left = budget > usage ? budget - usage : 0, held = held_of_type(b, i);
         status = set_budget(b, i, true, left <= UINT64_MAX - held ? held + left : UINT64_MAX);
     }
     return status;
@@ -894,9 +1006,14 @@ pilhangko_status PILHANGKO_CALL pilhangko_vulkan_set_budget(
 }
 
 pilhangko_status PILHANGKO_CALL pilhangko_vulkan_budget(const pilhangko_vulkan *vulkan, uint32_t memory_type, pilhangko_budget *budget) {
+    struct binding *b;
+    pilhangko_status status;
     if (!vulkan || !budget) return PILHANGKO_NULL_POINTER;
     if (!vulkan->opaque) return PILHANGKO_NO_HANDLE;
-    return pilhangko_allocator_budget(&binding_of(vulkan)->allocator, memory_type, budget);
+    b = enter(binding_of(vulkan));
+    status = pilhangko_allocator_budget(&b->allocator, memory_type, budget);
+    leave(b);
+    return status;
 }
 
 /* ---- create and destroy ---- */
@@ -973,7 +1090,6 @@ static pilhangko_allocator_settings allocator_settings(const pilhangko_vulkan_se
     s.largest_device_block_size = settings->largest_device_block_size;
     s.host_block_size = or_else(settings->host_block_size, UINT64_C(64) << 20);
     s.largest_host_block_size = settings->largest_host_block_size;
-    s.device_address = settings->buffer_device_address;
     return s;
 }
 
@@ -1002,11 +1118,12 @@ static void keep_settings(struct binding *b, const pilhangko_vulkan_settings *se
     if (b->has_callbacks) b->callbacks = *settings->allocation_callbacks;
     b->physical_device = settings->physical_device;
     b->device = settings->device;
-    b->blocks.record_size = sizeof(struct block);
     b->live.record_size = sizeof(struct live);
-    b->blocks.spare = b->live.spare = NO_RECORD;
+    b->live.spare = NO_RECORD;
     b->api_version = settings->api_version;
     b->memory_budget = settings->memory_budget;
+    b->device_address = settings->buffer_device_address;
+    b->is_locked_outside = settings->externally_synchronized;
     b->capture.end = settings->capture_write ? PILHANGKO_VULKAN_CAPTURE_WHOLE : PILHANGKO_VULKAN_CAPTURE_NONE;
     b->capture.write = settings->capture_write;
     b->capture.user = settings->capture_user;
@@ -1039,6 +1156,11 @@ pilhangko_status PILHANGKO_CALL pilhangko_vulkan_create(pilhangko_vulkan *vulkan
     b = (struct binding *)malloc(sizeof *b);
     if (!b) return PILHANGKO_HOST_OUT_OF_MEMORY;
     status = begin_binding(b, settings);
+    if (status == PILHANGKO_OK && !make_mutex(&b->lock)) {
+        (void)pilhangko_allocator_destroy(&b->allocator);
+        forget_text(&b->capture.device);
+        status = PILHANGKO_HOST_OUT_OF_MEMORY;
+    }
     if (status != PILHANGKO_OK) {
         free(b);
         return status;
@@ -1048,11 +1170,25 @@ pilhangko_status PILHANGKO_CALL pilhangko_vulkan_create(pilhangko_vulkan *vulkan
 }
 
 pilhangko_status PILHANGKO_CALL pilhangko_vulkan_end_capture(pilhangko_vulkan *vulkan, pilhangko_vulkan_capture *capture) {
+    struct binding *b;
+    pilhangko_status status = PILHANGKO_OK;
     if (!vulkan || !capture) return PILHANGKO_NULL_POINTER;
     if (!vulkan->opaque) return PILHANGKO_NO_HANDLE;
-    if (binding_of(vulkan)->capture.end == PILHANGKO_VULKAN_CAPTURE_NONE) return PILHANGKO_VULKAN_NO_CAPTURE;
-    *capture = end_capture(binding_of(vulkan), "");
-    return PILHANGKO_OK;
+    b = enter(binding_of(vulkan));
+    if (b->capture.end == PILHANGKO_VULKAN_CAPTURE_NONE) status = PILHANGKO_VULKAN_NO_CAPTURE;
+    else *capture = end_capture(b, "");
+    leave(b);
+    return status;
+}
+
+/* Gives all blocks back, as a visit of the slots shows them. */
+static void give_back_all(const struct binding *b) {
+    pilhangko_type_statistics type;
+    pilhangko_allocator_live_block block;
+    for (size_t i = 0; pilhangko_allocator_type_statistics(&b->allocator, i, &type) == PILHANGKO_OK; i++)
+        for (size_t slot = 0; slot < type.slots; slot++)
+            if (pilhangko_allocator_block(&b->allocator, i, slot, &block) == PILHANGKO_OK && block.exists)
+                give_back(b, block.memory, block.mapped);
 }
 
 pilhangko_status PILHANGKO_CALL pilhangko_vulkan_destroy(pilhangko_vulkan *vulkan, pilhangko_vulkan_ending *ending) {
@@ -1063,12 +1199,10 @@ pilhangko_status PILHANGKO_CALL pilhangko_vulkan_destroy(pilhangko_vulkan *vulka
     if (!b) return PILHANGKO_NO_HANDLE;
     told.leaks = b->live_count;
     told.capture = end_capture(b, "destroy\n");
-    for (uint32_t i = 0; i < b->blocks.count; i++)
-        if (block_at(b, i)->memory != VK_NULL_HANDLE) give_back(b, i);
+    give_back_all(b);
     (void)pilhangko_allocator_destroy(&b->allocator);
-    free(b->chains);
-    free(b->blocks.records);
     free(b->live.records);
+    drop_mutex(&b->lock);
     free(b);
     vulkan->opaque = NULL;
     if (ending) *ending = told;

@@ -28,6 +28,6 @@ static void reply_place(const pilhangko_vulkan_allocation *a) {
     if (!replies) return;
     fprintf(replies, "ok type %zu slot %zu offset %llu size %llu chunk %llu dedicated %s mapped %s\n", a->piece.memory_type, p->slot,
         (unsigned long long)p->offset, (unsigned long long)p->size, (unsigned long long)p->number, a->dedicated ? "true" : "false",
-        a->piece.mapped ? "true" : "false");
+        a->piece.address ? "true" : "false");
 }
 #endif

@@ -8,7 +8,12 @@ static const pilhangko_device_memory_type types[] = {{1, 0}, {6, 1}, {7, 2}};
 static const pilhangko_device_heap heaps[] = {{1024 * MB, 1}, {512 * MB, 0}, {16 * MB, 1}};
 
 /* on the host's side blocks of 4 MB, doubling up to 8 MB; on the device's 8 MB */
-static const pilhangko_allocator_settings settings = {64, 8 * MB, 0, 4 * MB, 8 * MB, true};
+static const pilhangko_allocator_settings settings = {64, 8 * MB, 0, 4 * MB, 8 * MB};
+
+/* where the tests' driver maps its memory */
+static uint64_t address_of(bool mapped, uint64_t memory) {
+    return mapped ? memory << 32 : 0;
+}
 
 static pilhangko_allocator made(void) {
     pilhangko_allocator a = {0};
@@ -22,17 +27,17 @@ static pilhangko_allocator_request asks(uint64_t size, uint32_t bits, uint32_t l
 }
 
 static void has_no_piece(const pilhangko_allocator_piece *p) {
-    CHECK(p->memory_type == 0 && !p->mapped && p->piece.slot == 0 && p->piece.number == 0 && p->piece.offset == 0 && p->piece.size == 0 &&
+    CHECK(p->memory_type == 0 && p->address == 0 && p->piece.slot == 0 && p->piece.number == 0 && p->piece.offset == 0 && p->piece.size == 0 &&
           p->piece.block == 0);
 }
 
 static void has_no_question(const pilhangko_allocator_question *q) {
-    CHECK(q->size == 0 && q->memory_type == 0 && q->scheme == 0 && q->resource == 0 && !q->device_address && !q->mapped);
+    CHECK(q->size == 0 && q->memory_type == 0 && !q->dedicated && !q->mapped);
 }
 
-static void is_question(const pilhangko_allocator_progress *p, uint64_t size, uint32_t type, bool mapped) {
+static void is_question(const pilhangko_allocator_progress *p, uint64_t size, size_t type, bool mapped, bool dedicated) {
     CHECK(p->kind == PILHANGKO_PROGRESS_QUESTION && p->status == PILHANGKO_OK);
-    CHECK(p->question.size == size && p->question.memory_type == type && p->question.mapped == mapped && p->question.device_address);
+    CHECK(p->question.size == size && p->question.memory_type == type && p->question.mapped == mapped && p->question.dedicated == dedicated);
     has_no_piece(&p->piece);
 }
 
@@ -44,7 +49,7 @@ static void is_refused(const pilhangko_allocator_progress *p, pilhangko_status s
 
 static void is_piece(const pilhangko_allocator_piece *p, size_t type, bool mapped, size_t slot, uint64_t number, uint64_t offset,
     uint64_t size, uint64_t memory) {
-    CHECK(p->memory_type == type && p->mapped == mapped && p->piece.slot == slot && p->piece.number == number);
+    CHECK(p->memory_type == type && p->address == address_of(mapped, memory) && p->piece.slot == slot && p->piece.number == number);
     CHECK(p->piece.offset == offset && p->piece.size == size && p->piece.block == memory);
 }
 
@@ -61,10 +66,10 @@ static void is_live(const pilhangko_allocator *a, const pilhangko_allocator_piec
 }
 
 static void frees(pilhangko_allocator *a, const pilhangko_allocator_piece *piece, bool exists, bool mapped, uint64_t memory) {
-    pilhangko_allocator_memory back = {!exists, !mapped, memory + 1};
+    pilhangko_allocator_memory back = {!exists, !mapped, memory + 1, 1};
     is_live(a, piece, true);
     IS(pilhangko_allocator_free(a, piece, &back), PILHANGKO_OK);
-    CHECK(back.exists == exists && back.mapped == mapped && back.memory == memory);
+    CHECK(back.exists == exists && back.mapped == mapped && back.memory == memory && back.address == address_of(mapped, memory));
     is_live(a, piece, false);
 }
 
@@ -87,7 +92,7 @@ static pilhangko_status allocates(
     while (status == PILHANGKO_OK && p.kind == PILHANGKO_PROGRESS_QUESTION) {
         uint64_t memory;
         int32_t code = driver_allocates(&p.question, &memory);
-        if (code == 0) return pilhangko_allocator_granted(allocator, memory, piece);
+        if (code == 0) return pilhangko_allocator_granted(allocator, memory, address_of(p.question.mapped, memory), piece);
         status = pilhangko_allocator_refused(allocator, code, &p);
     }
     if (status == PILHANGKO_OK && p.kind == PILHANGKO_PROGRESS_PIECE) *piece = p.piece;
@@ -114,29 +119,27 @@ static void whole_requests(void) {
 
 /* ---- rows */
 
-/* a piece with a block of its own, whose question names what it is for */
+/* a piece with a block of its own */
 static pilhangko_allocator_piece own_piece(
     pilhangko_allocator *a, const pilhangko_allocator_request *request, uint32_t memory_type, bool mapped, uint64_t memory) {
     pilhangko_allocator_progress p;
     pilhangko_allocator_piece piece;
     IS(pilhangko_allocator_begin(a, request, "own", &p), PILHANGKO_OK);
-    is_question(&p, request->size, memory_type, mapped);
-    CHECK(p.question.scheme == request->scheme && p.question.resource == request->resource);
-    IS(pilhangko_allocator_granted(a, memory, &piece), PILHANGKO_OK);
+    is_question(&p, request->size, memory_type, mapped, true);
+    IS(pilhangko_allocator_granted(a, memory, address_of(mapped, memory), &piece), PILHANGKO_OK);
     return piece;
 }
 
 static void pieces_and_questions(void) {
     pilhangko_allocator a = made();
     pilhangko_allocator_request r = asks(100, 7, PILHANGKO_LOCATION_GPU_ONLY);
-    pilhangko_allocator_progress p = {9, 9, {9, true, {9, 9, 9, 9, 9}}, {9, 9, 9, 9, true, true}};
+    pilhangko_allocator_progress p = {9, 9, {9, 9, {9, 9, 9, 9, 9}}, {9, 9, true, true}};
     pilhangko_allocator_piece first, second, own, read;
     has_capacity(&a, 0);
     IS(pilhangko_allocator_begin(&a, &r, "first", &p), PILHANGKO_OK);
-    is_question(&p, 8 * MB, 0, false);
-    CHECK(p.question.scheme == PILHANGKO_SCHEME_MANAGED && p.question.resource == 0);
+    is_question(&p, 8 * MB, 0, false, false);
     has_capacity(&a, 0); /* a block that is awaited isn't one */
-    IS(pilhangko_allocator_granted(&a, 1001, &first), PILHANGKO_OK);
+    IS(pilhangko_allocator_granted(&a, 1001, 0, &first), PILHANGKO_OK);
     is_piece(&first, 0, false, 0, 2, 0, 100, 1001);
     has_capacity(&a, 8 * MB);
     r = asks(50, 7, PILHANGKO_LOCATION_UNKNOWN); /* the first memory type that is allowed */
@@ -179,20 +182,20 @@ static void refusals_of_the_driver(void) {
     IS(pilhangko_allocator_refused(&a, -1, &p), PILHANGKO_OK);
     is_refused(&p, PILHANGKO_DRIVER_REFUSED);
     IS(pilhangko_allocator_begin(&a, &upload, NULL, &p), PILHANGKO_OK);
-    is_question(&p, 4 * MB, 2, true);
+    is_question(&p, 4 * MB, 2, true, false);
     IS(pilhangko_allocator_refused(&a, -2, &p), PILHANGKO_OK);
-    is_question(&p, 4 * MB, 1, true); /* the second attempt */
-    IS(pilhangko_allocator_granted(&a, 2001, &piece), PILHANGKO_OK);
+    is_question(&p, 4 * MB, 1, true, false); /* the second attempt */
+    IS(pilhangko_allocator_granted(&a, 2001, address_of(true, 2001), &piece), PILHANGKO_OK);
     is_piece(&piece, 1, true, 0, 2, 0, 100, 2001);
     IS(pilhangko_allocator_begin(&a, &upload, NULL, &p), PILHANGKO_OK);
-    is_question(&p, 4 * MB, 2, true);
+    is_question(&p, 4 * MB, 2, true, false);
     IS(pilhangko_allocator_mapping_refused(&a, true, -5, &p), PILHANGKO_OK);
     CHECK(p.kind == PILHANGKO_PROGRESS_PIECE && p.status == PILHANGKO_OK); /* the second attempt finds a place */
     is_piece(&p.piece, 1, true, 0, 3, 100, 100, 2001);
     IS(pilhangko_allocator_begin(&a, &narrow, NULL, &p), PILHANGKO_OK);
-    is_question(&p, 4 * MB, 2, true);
+    is_question(&p, 4 * MB, 2, true, false);
     IS(pilhangko_allocator_mapping_refused(&a, true, -5, &p), PILHANGKO_OK);
-    is_question(&p, 4 * MB, 2, true); /* the second attempt is at the same memory type */
+    is_question(&p, 4 * MB, 2, true, false); /* the second attempt is at the same memory type */
     IS(pilhangko_allocator_mapping_refused(&a, false, 0, &p), PILHANGKO_OK);
     is_refused(&p, PILHANGKO_FAILED_TO_MAP);
     IS(pilhangko_allocator_begin(&a, &narrow, NULL, &p), PILHANGKO_OK);
@@ -206,17 +209,17 @@ static void refusals_of_the_driver(void) {
 static void out_of_turn(void) {
     pilhangko_allocator a = made();
     pilhangko_allocator_request r = asks(100, 7, PILHANGKO_LOCATION_GPU_ONLY), own = r, bad = asks(0, 0, 0);
-    pilhangko_allocator_progress p = {9, 9, {9, true, {9, 9, 9, 9, 9}}, {9, 9, 9, 9, true, true}};
-    pilhangko_allocator_piece piece, kept = {4, true, {4, 4, 4, 4, 4}};
-    pilhangko_allocator_memory back = {true, true, 3};
+    pilhangko_allocator_progress p = {9, 9, {9, 9, {9, 9, 9, 9, 9}}, {9, 9, true, true}};
+    pilhangko_allocator_piece piece, kept = {4, 4, {4, 4, 4, 4, 4}};
+    pilhangko_allocator_memory back = {true, true, 3, 3};
     pilhangko_budget budget;
     own.scheme = PILHANGKO_SCHEME_IMAGE;
-    IS(pilhangko_allocator_granted(&a, 1, &kept), PILHANGKO_AWAITS_NO_ANSWER);
+    IS(pilhangko_allocator_granted(&a, 1, 0, &kept), PILHANGKO_AWAITS_NO_ANSWER);
     IS(pilhangko_allocator_refused(&a, -2, &p), PILHANGKO_AWAITS_NO_ANSWER);
     IS(pilhangko_allocator_mapping_refused(&a, true, -5, &p), PILHANGKO_AWAITS_NO_ANSWER);
-    CHECK(kept.memory_type == 4 && kept.piece.number == 4 && p.kind == 9 && p.status == 9 && p.question.size == 9);
+    CHECK(kept.memory_type == 4 && kept.address == 4 && kept.piece.number == 4 && p.kind == 9 && p.status == 9 && p.question.size == 9);
     IS(pilhangko_allocator_begin(&a, &r, NULL, &p), PILHANGKO_OK);
-    IS(pilhangko_allocator_granted(&a, 1, &piece), PILHANGKO_OK);
+    IS(pilhangko_allocator_granted(&a, 1, 0, &piece), PILHANGKO_OK);
     IS(pilhangko_allocator_begin(&a, &own, NULL, &p), PILHANGKO_OK);
     p.kind = 9;
     IS(pilhangko_allocator_begin(&a, &r, NULL, &p), PILHANGKO_AWAITS_ANSWER);
@@ -224,7 +227,7 @@ static void out_of_turn(void) {
     CHECK(p.kind == 9);
     IS(pilhangko_allocator_free(&a, &piece, &back), PILHANGKO_AWAITS_ANSWER);
     IS(pilhangko_allocator_free(&a, &kept, &back), PILHANGKO_AWAITS_ANSWER);
-    CHECK(back.exists && back.mapped && back.memory == 3);
+    CHECK(back.exists && back.mapped && back.memory == 3 && back.address == 3);
     IS(pilhangko_allocator_rename(&a, &piece, "name"), PILHANGKO_AWAITS_ANSWER);
     IS(pilhangko_allocator_rename(&a, &kept, "\xff"), PILHANGKO_AWAITS_ANSWER);
     IS(pilhangko_allocator_set_budget(&a, 0, true, 1), PILHANGKO_AWAITS_ANSWER);
@@ -233,7 +236,7 @@ static void out_of_turn(void) {
     has_capacity(&a, 8 * MB);
     IS(pilhangko_allocator_budget(&a, 0, &budget), PILHANGKO_OK);
     CHECK(!budget.exists && budget.bytes == 0);
-    IS(pilhangko_allocator_granted(&a, 2, &kept), PILHANGKO_OK);
+    IS(pilhangko_allocator_granted(&a, 2, 0, &kept), PILHANGKO_OK);
     frees(&a, &kept, true, false, 2);
     IS(pilhangko_allocator_begin(&a, &own, NULL, &p), PILHANGKO_OK);
     IS(pilhangko_allocator_destroy(&a), PILHANGKO_OK); /* with a question open */
@@ -242,7 +245,7 @@ static void out_of_turn(void) {
 static void budgets(void) {
     pilhangko_allocator a = made();
     pilhangko_allocator_request r = asks(100, 1, PILHANGKO_LOCATION_GPU_ONLY), own = r;
-    pilhangko_allocator_progress p = {9, 9, {9, true, {9, 9, 9, 9, 9}}, {9, 9, 9, 9, true, true}};
+    pilhangko_allocator_progress p = {9, 9, {9, 9, {9, 9, 9, 9, 9}}, {9, 9, true, true}};
     pilhangko_allocator_piece piece;
     pilhangko_budget budget = {false, 9};
     own.scheme = PILHANGKO_SCHEME_BUFFER;
@@ -256,7 +259,7 @@ static void budgets(void) {
     IS(pilhangko_allocator_budget(&a, 3, &budget), PILHANGKO_OK);
     CHECK(!budget.exists && budget.bytes == 0);
     IS(pilhangko_allocator_begin(&a, &r, NULL, &p), PILHANGKO_OK); /* just within */
-    IS(pilhangko_allocator_granted(&a, 1, &piece), PILHANGKO_OK);
+    IS(pilhangko_allocator_granted(&a, 1, 0, &piece), PILHANGKO_OK);
     p.kind = 9;
     IS(pilhangko_allocator_begin(&a, &own, NULL, &p), PILHANGKO_BUDGET_EXCEEDED);
     CHECK(p.kind == 9);
@@ -294,7 +297,7 @@ static void devices(void) {
 static void request_statuses(void) {
     pilhangko_allocator a = made();
     pilhangko_allocator_request good = asks(100, 7, PILHANGKO_LOCATION_GPU_ONLY);
-    pilhangko_allocator_progress p = {9, 9, {9, true, {9, 9, 9, 9, 9}}, {9, 9, 9, 9, true, true}};
+    pilhangko_allocator_progress p = {9, 9, {9, 9, {9, 9, 9, 9, 9}}, {9, 9, true, true}};
     for (unsigned field = 0; field < 9; field++) {
         pilhangko_allocator_request bad = good;
         if (field == 0) bad.size = 0;
@@ -322,11 +325,11 @@ static void piece_statuses(void) {
     pilhangko_allocator a = made();
     pilhangko_allocator_request good = asks(100, 7, PILHANGKO_LOCATION_GPU_ONLY);
     pilhangko_allocator_progress p;
-    pilhangko_allocator_memory back = {true, true, 3};
+    pilhangko_allocator_memory back = {true, true, 3, 3};
     pilhangko_allocator_piece piece;
     IS(pilhangko_allocator_begin(&a, &good, NULL, &p), PILHANGKO_OK);
-    IS(pilhangko_allocator_granted(&a, 7, &piece), PILHANGKO_OK);
-    for (unsigned field = 0; field < 8; field++) {
+    IS(pilhangko_allocator_granted(&a, 7, 0, &piece), PILHANGKO_OK);
+    for (unsigned field = 0; field < 9; field++) {
         pilhangko_allocator_piece wrong = piece;
         if (field == 0) wrong.piece.slot++;
         if (field == 1) wrong.piece.number++;
@@ -336,15 +339,15 @@ static void piece_statuses(void) {
         if (field == 5) wrong.piece.number = 0;
         if (field == 6) wrong.memory_type = 1;
         if (field == 7) wrong.memory_type = SIZE_MAX;
+        if (field == 8) wrong.address = 1;
         is_live(&a, &wrong, false);
         IS(pilhangko_allocator_free(&a, &wrong, &back), PILHANGKO_NOT_LIVE);
         IS(pilhangko_allocator_rename(&a, &wrong, "name"), PILHANGKO_NOT_LIVE);
         IS(pilhangko_allocator_rename(&a, &wrong, "\xff"), PILHANGKO_INVALID);
     }
-    CHECK(back.exists && back.mapped && back.memory == 3);
+    CHECK(back.exists && back.mapped && back.memory == 3 && back.address == 3);
     IS(pilhangko_allocator_rename(&a, &piece, "\xf5"), PILHANGKO_INVALID);
     IS(pilhangko_allocator_rename(&a, &piece, "another name"), PILHANGKO_OK);
-    piece.mapped = true; /* no call reads it */
     frees(&a, &piece, false, false, 0);
     IS(pilhangko_allocator_free(&a, &piece, &back), PILHANGKO_NOT_LIVE);
     IS(pilhangko_allocator_destroy(&a), PILHANGKO_OK);
@@ -358,20 +361,27 @@ static pilhangko_allocator with_three_pieces(void) {
     pilhangko_allocator_progress p;
     pilhangko_allocator_piece piece;
     IS(pilhangko_allocator_begin(&a, &r, "first", &p), PILHANGKO_OK);
-    IS(pilhangko_allocator_granted(&a, 1001, &piece), PILHANGKO_OK);
+    IS(pilhangko_allocator_granted(&a, 1001, 0, &piece), PILHANGKO_OK);
     r.alignment = 256;
     IS(pilhangko_allocator_begin(&a, &r, "se\"cond", &p), PILHANGKO_OK);
     is_piece(&p.piece, 0, false, 0, 3, 256, 100, 1001);
     r.location = PILHANGKO_LOCATION_GPU_TO_CPU;
     r.scheme = PILHANGKO_SCHEME_IMAGE;
     IS(pilhangko_allocator_begin(&a, &r, "own", &p), PILHANGKO_OK);
-    IS(pilhangko_allocator_granted(&a, 1002, &piece), PILHANGKO_OK);
+    IS(pilhangko_allocator_granted(&a, 1002, address_of(true, 1002), &piece), PILHANGKO_OK);
     is_piece(&piece, 1, true, 0, 1, 0, 100, 1002);
     return a;
 }
 
 static void counts_of_types(const pilhangko_allocator *a) {
     pilhangko_type_statistics s = {9, 9, 9, true, 9, 9, 9, 9, 9};
+    uint64_t bytes = 9;
+    IS(pilhangko_allocator_type_capacity(a, 3, &bytes), PILHANGKO_NO_SUCH_TYPE);
+    CHECK(bytes == 9);
+    IS(pilhangko_allocator_type_capacity(a, 0, &bytes), PILHANGKO_OK);
+    CHECK(bytes == 8 * MB);
+    IS(pilhangko_allocator_type_capacity(a, 1, &bytes), PILHANGKO_OK);
+    CHECK(bytes == 100);
     IS(pilhangko_allocator_type_statistics(a, 3, &s), PILHANGKO_NO_SUCH_TYPE);
     CHECK(s.capacity == 9 && s.slots == 9 && s.longest_gap == 9);
     IS(pilhangko_allocator_type_statistics(a, 0, &s), PILHANGKO_OK);
@@ -388,16 +398,16 @@ static void counts_of_types(const pilhangko_allocator *a) {
 }
 
 static void blocks_of_slots(const pilhangko_allocator *a) {
-    pilhangko_allocator_memory memory = {false, true, 9};
+    pilhangko_allocator_live_block block = {false, true, false, 9, 9, 9};
     pilhangko_memory_block_statistics s = {false, 9, 9, 9, 9};
-    IS(pilhangko_allocator_block(a, 0, 0, &memory), PILHANGKO_OK);
-    CHECK(memory.exists && !memory.mapped && memory.memory == 1001);
-    IS(pilhangko_allocator_block(a, 1, 0, &memory), PILHANGKO_OK);
-    CHECK(memory.exists && memory.mapped && memory.memory == 1002);
-    IS(pilhangko_allocator_block(a, 1, 1, &memory), PILHANGKO_OK);
-    CHECK(!memory.exists && !memory.mapped && memory.memory == 0);
-    IS(pilhangko_allocator_block(a, SIZE_MAX, 0, &memory), PILHANGKO_OK);
-    CHECK(!memory.exists && !memory.mapped && memory.memory == 0);
+    IS(pilhangko_allocator_block(a, 0, 0, &block), PILHANGKO_OK);
+    CHECK(block.exists && !block.mapped && block.shared && block.memory == 1001 && block.address == 0 && block.size == 8 * MB);
+    IS(pilhangko_allocator_block(a, 1, 0, &block), PILHANGKO_OK);
+    CHECK(block.exists && block.mapped && !block.shared && block.memory == 1002 && block.address == address_of(true, 1002) && block.size == 100);
+    IS(pilhangko_allocator_block(a, 1, 1, &block), PILHANGKO_OK);
+    CHECK(!block.exists && !block.mapped && !block.shared && block.memory == 0 && block.address == 0 && block.size == 0);
+    IS(pilhangko_allocator_block(a, SIZE_MAX, 0, &block), PILHANGKO_OK);
+    CHECK(!block.exists && !block.mapped && !block.shared && block.memory == 0 && block.address == 0 && block.size == 0);
     IS(pilhangko_allocator_block_statistics(a, 0, 0, &s), PILHANGKO_OK);
     CHECK(s.exists && s.pieces == 2 && s.piece_bytes == 356 && s.gaps == 1 && s.longest_gap == 8 * MB - 356);
     IS(pilhangko_allocator_block_statistics(a, 3, 0, &s), PILHANGKO_OK);
@@ -469,7 +479,7 @@ static void visits(void) {
     counts_of_types(&a);
     IS(pilhangko_allocator_set_budget(&a, 0, true, 16 * MB), PILHANGKO_OK);
     IS(pilhangko_allocator_begin(&a, &r, "awaited", &p), PILHANGKO_OK);
-    is_question(&p, 8 * MB, 0, false);
+    is_question(&p, 8 * MB, 0, false, false);
     blocks_of_slots(&a);
     pieces_of_slots(&a);
     texts(&a);
@@ -481,8 +491,9 @@ static void visits(void) {
 static void each_call(pilhangko_allocator *a, bool tells, pilhangko_status expected) {
     pilhangko_allocator_request r = asks(100, 7, PILHANGKO_LOCATION_GPU_ONLY);
     pilhangko_allocator_progress p;
-    pilhangko_allocator_piece piece = {0, false, {0, 1, 0, 1, 1}};
+    pilhangko_allocator_piece piece = {0, 0, {0, 1, 0, 1, 1}};
     pilhangko_allocator_memory back;
+    pilhangko_allocator_live_block shown;
     pilhangko_budget budget;
     pilhangko_type_statistics type;
     pilhangko_memory_block_statistics block;
@@ -492,7 +503,7 @@ static void each_call(pilhangko_allocator *a, bool tells, pilhangko_status expec
     bool live;
     char text[1];
     IS(pilhangko_allocator_begin(a, &r, NULL, tells ? &p : NULL), expected);
-    IS(pilhangko_allocator_granted(a, 1, tells ? &piece : NULL), expected);
+    IS(pilhangko_allocator_granted(a, 1, 0, tells ? &piece : NULL), expected);
     IS(pilhangko_allocator_refused(a, -2, tells ? &p : NULL), expected);
     IS(pilhangko_allocator_mapping_refused(a, true, -5, tells ? &p : NULL), expected);
     IS(pilhangko_allocator_free(a, &piece, tells ? &back : NULL), expected);
@@ -501,7 +512,8 @@ static void each_call(pilhangko_allocator *a, bool tells, pilhangko_status expec
     IS(pilhangko_allocator_capacity(a, tells ? &bytes : NULL), expected);
     IS(pilhangko_allocator_type_statistics(a, 0, tells ? &type : NULL), expected);
     IS(pilhangko_allocator_statistics(a, tells ? &type : NULL), expected);
-    IS(pilhangko_allocator_block(a, 0, 0, tells ? &back : NULL), expected);
+    IS(pilhangko_allocator_type_capacity(a, 0, tells ? &bytes : NULL), expected);
+    IS(pilhangko_allocator_block(a, 0, 0, tells ? &shown : NULL), expected);
     IS(pilhangko_allocator_block_statistics(a, 0, 0, tells ? &block : NULL), expected);
     IS(pilhangko_allocator_pieces(a, 0, 0, 0, views, 1, tells ? &count : NULL), expected);
     IS(pilhangko_allocator_piece_names(a, 0, 0, 0, lengths, 1, text, 1, tells ? &count : NULL), expected);

@@ -94,7 +94,8 @@ static inline void account_granted(struct allocator_account *a, uint64_t memory)
 }
 
 static inline bool same_allocation(const struct allocator_account *a, const pilhangko_allocator_piece *piece) {
-    return piece->memory_type == a->type && piece->mapped == ((a->flags[a->type] & 2) != 0) && same_piece(&piece->piece, &a->placed.piece);
+    return piece->memory_type == a->type && (piece->address != 0) == ((a->flags[a->type] & 2) != 0) &&
+           same_piece(&piece->piece, &a->placed.piece);
 }
 
 /* The index of a live piece in its slot's account, or -1. */

@@ -9,8 +9,8 @@
 #define FAKE_ATOM 64
 #define FAKE_GRANULARITY 1024
 
-/* how a question is answered: by a grant, a code, VK_SUCCESS with nothing, or VK_SUCCESS with memory that is held */
-enum fake_answer { FAKE_GRANTS, FAKE_REFUSES, FAKE_GIVES_NOTHING, FAKE_GIVES_HELD };
+/* how a question is answered: by a grant, a code, or VK_SUCCESS with nothing */
+enum fake_answer { FAKE_GRANTS, FAKE_REFUSES, FAKE_GIVES_NOTHING };
 
 struct fake_memory {
     VkDeviceMemory handle;
@@ -120,7 +120,6 @@ static VKAPI_ATTR VkResult VKAPI_CALL fake_allocate(
     CHECK(info->memoryTypeIndex < fake.type_count && fake.memory_count < FAKE_THINGS);
     fake_callbacks(callbacks);
     fake_read_chain(info, &made);
-    if (answer == FAKE_GIVES_HELD && fake.memory_count > 0) *memory = fake.memories[fake.questions % fake.memory_count].handle;
     if (answer != FAKE_GRANTS) return code;
     made.handle = (VkDeviceMemory)++fake.last_handle;
     fake.memories[fake.memory_count++] = made;

@@ -1,12 +1,13 @@
-/* A target for clang's libFuzzer: an input is a row of calls of the three handles of pilhangko.h, each beside a plain account that
+/* A target for clang's libFuzzer: an input is a row of calls of the four handles of pilhangko.h, each beside a plain account that
  * foretells its status and what it reports. Sizes, alignments, names and pieces may be anything. */
 #include "allocator_account.h"
 #include "fuzz_handles.h"
+#include "ring_account.h"
 
 #define CALLS 900 /* of one input: the account's rows have room for what they leave */
 #define NAME_ROOM 12
 
-size_t fuzz_pieces[3];
+size_t fuzz_pieces[4];
 
 /* ---- the input */
 
@@ -353,7 +354,7 @@ static void ends_type(void) {
 
 static pilhangko_allocator allocator;
 static struct allocator_account account;
-static bool has_allocator, has_addresses;
+static bool has_allocator;
 
 static pilhangko_status allocator_status(bool changes, pilhangko_status status) {
     return !has_allocator ? PILHANGKO_NO_HANDLE : changes && account.awaits_answer ? PILHANGKO_AWAITS_ANSWER : status;
@@ -362,7 +363,6 @@ static pilhangko_status allocator_status(bool changes, pilhangko_status status) 
 static void begins_account(
     const pilhangko_device_memory_type *types, const pilhangko_device_heap *heaps, size_t count, const pilhangko_allocator_settings *s) {
     has_allocator = true;
-    has_addresses = s->device_address;
     account.type_count = count;
     account.awaits_answer = false;
     for (size_t i = 0; i < count; i++) {
@@ -381,7 +381,7 @@ static void creates_allocator(void) {
     const size_t count = next_byte() % (ACCOUNT_TYPES + 1), heap_count = next_byte() % 4;
     const uint64_t page = next_alignment(), first = next_number() << 8, last = next_number() << 8, other = next_number() << 8,
                    others = next_number() << 8;
-    const pilhangko_allocator_settings s = {page, first, last, other, others, next_byte() % 2};
+    const pilhangko_allocator_settings s = {page, first, last, other, others};
     pilhangko_status valid = is_power(s.page_size) ? PILHANGKO_OK : PILHANGKO_INVALID_DEVICE;
     for (size_t i = 0; i < 3; i++) heaps[i].size = next_byte() % 2 ? 1024 * MB : next_number() << 8, heaps[i].flags = next_byte();
     for (size_t i = 0; i < count; i++) {
@@ -394,6 +394,15 @@ static void creates_allocator(void) {
     if (status == PILHANGKO_OK) begins_account(types, heaps, count, &s);
 }
 
+static bool is_mapped(size_t type) {
+    return account.flags[type] & 2;
+}
+
+/* Where the fuzzer maps memory. */
+static uint64_t address_of(size_t type, uint64_t memory) {
+    return is_mapped(type) ? memory % 1000 + 1 : 0;
+}
+
 /* The progress is the account's, and says nothing else. */
 static void is_progress(const pilhangko_allocator_progress *p, pilhangko_status status) {
     const pilhangko_allocator_question *q = &p->question;
@@ -402,11 +411,10 @@ static void is_progress(const pilhangko_allocator_progress *p, pilhangko_status 
     CHECK(p->kind == (asks ? PILHANGKO_PROGRESS_QUESTION : has_piece ? PILHANGKO_PROGRESS_PIECE : (uint32_t)PILHANGKO_PROGRESS_REFUSED));
     CHECK(has_piece ? same_allocation(&account, &p->piece) : p->piece.piece.number == 0 && p->piece.piece.size == 0);
     if (asks) {
-        const uint64_t resource = account.request.scheme == PILHANGKO_SCHEME_MANAGED ? 0 : account.request.resource;
-        CHECK(q->size == account.placed.block_size && q->memory_type == account.type && q->scheme == account.request.scheme);
-        CHECK(q->resource == resource && q->mapped == ((account.flags[account.type] & 2) != 0) && q->device_address == has_addresses);
+        CHECK(q->size == account.placed.block_size && q->memory_type == account.type && q->mapped == is_mapped(account.type));
+        CHECK(q->dedicated == account.placed.dedicated);
     } else {
-        CHECK(q->size == 0 && q->memory_type == 0 && q->scheme == 0 && q->resource == 0 && !q->mapped && !q->device_address);
+        CHECK(q->size == 0 && q->memory_type == 0 && !q->dedicated && !q->mapped);
     }
 }
 
@@ -439,15 +447,15 @@ static void begins_request(void) {
 
 static void grants(void) {
     const uint64_t memory = next_number();
-    pilhangko_allocator_piece piece = {7, false, {7, 7, 7, 7, 7}};
+    pilhangko_allocator_piece piece = {7, 7, {7, 7, 7, 7, 7}};
     const pilhangko_status status = allocator_status(false, account.awaits_answer ? PILHANGKO_OK : PILHANGKO_AWAITS_NO_ANSWER);
-    IS(pilhangko_allocator_granted(&allocator, memory, &piece), status);
+    IS(pilhangko_allocator_granted(&allocator, memory, address_of(account.type, memory), &piece), status);
     if (status != PILHANGKO_OK) {
-        CHECK(piece.memory_type == 7 && piece.piece.number == 7);
+        CHECK(piece.memory_type == 7 && piece.address == 7 && piece.piece.number == 7);
         return;
     }
     account_granted(&account, memory);
-    CHECK(same_allocation(&account, &piece));
+    CHECK(same_allocation(&account, &piece) && piece.address == address_of(account.type, memory));
     fuzz_pieces[2]++;
 }
 
@@ -467,32 +475,40 @@ static void refuses(bool mapping) {
 
 static pilhangko_allocator_piece some_allocation(void) {
     const size_t at = next_byte() % ACCOUNT_TYPES;
-    const bool mapped = next_byte() % 2; /* which no call reads */
-    pilhangko_allocator_piece piece = {at, mapped, some_piece(&account.types[has_allocator && at < account.type_count ? at : 0])};
+    pilhangko_allocator_piece piece = {at, 0, some_piece(&account.types[has_allocator && at < account.type_count ? at : 0])};
+    if (has_allocator && at < account.type_count) piece.address = address_of(at, piece.piece.block);
     if (next_byte() == 0) piece.memory_type = next_number();
+    if (next_byte() == 0) piece.address = next_number();
     return piece;
+}
+
+/* The index of a live piece in its slot's account, or -1: where it is mapped counts too. */
+static long allocation_at(const pilhangko_allocator_piece *piece) {
+    const long at = has_allocator ? allocator_find(&account, piece) : -1;
+    return at >= 0 && piece->address == address_of(piece->memory_type, piece->piece.block) ? at : -1;
 }
 
 static void frees_of_allocator(void) {
     const pilhangko_allocator_piece piece = some_allocation();
-    const long at = has_allocator ? allocator_find(&account, &piece) : -1;
+    const long at = allocation_at(&piece);
     const pilhangko_status status = allocator_status(true, at >= 0 ? PILHANGKO_OK : PILHANGKO_NOT_LIVE);
-    pilhangko_allocator_memory back = {true, true, 77};
+    pilhangko_allocator_memory back = {true, true, 77, 77};
     IS(pilhangko_allocator_free(&allocator, &piece, &back), status);
     if (status != PILHANGKO_OK) {
-        CHECK(back.exists && back.mapped && back.memory == 77);
+        CHECK(back.exists && back.mapped && back.memory == 77 && back.address == 77);
         return;
     }
     struct type_account *t = &account.types[piece.memory_type];
     const uint64_t memory = t->slots[piece.piece.slot].block;
     const bool goes = type_free(t, &piece.piece, at), mapped = goes && (account.flags[piece.memory_type] & 2);
     CHECK(back.exists == goes && back.mapped == mapped && back.memory == (goes ? memory : 0));
+    CHECK(back.address == (goes ? address_of(piece.memory_type, memory) : 0));
 }
 
 static void renames_of_allocator(void) {
     const pilhangko_allocator_piece piece = some_allocation();
     const char *name = next_name();
-    const long at = has_allocator ? allocator_find(&account, &piece) : -1;
+    const long at = allocation_at(&piece);
     const pilhangko_status live = at >= 0 ? PILHANGKO_OK : PILHANGKO_NOT_LIVE;
     bool is_live = at < 0;
     IS(pilhangko_allocator_is_live(&allocator, &piece, &is_live), allocator_status(false, PILHANGKO_OK));
@@ -544,18 +560,19 @@ static void same_type_statistics(size_t at) {
 static void same_slot(size_t at, size_t slot, uint64_t from) {
     const bool is_there = has_allocator && at < account.type_count && slot < account.types[at].slot_count;
     const struct slot *there = is_there && account.types[at].slots[slot].exists ? &account.types[at].slots[slot] : NULL;
-    pilhangko_allocator_memory memory;
+    pilhangko_allocator_live_block block;
     pilhangko_piece_view views[6];
     char names[40];
     size_t lengths[6], room = next_byte() % 7, names_room = next_byte() % 41, shown, named;
     memset(views, 0xff, sizeof views);
-    IS(pilhangko_allocator_block(&allocator, at, slot, &memory), allocator_status(false, PILHANGKO_OK));
+    IS(pilhangko_allocator_block(&allocator, at, slot, &block), allocator_status(false, PILHANGKO_OK));
     IS(pilhangko_allocator_pieces(&allocator, at, slot, from, views, room, &shown), allocator_status(false, PILHANGKO_OK));
     IS(pilhangko_allocator_piece_names(&allocator, at, slot, from, lengths, room, names, names_room, &named),
         allocator_status(false, PILHANGKO_OK));
     if (!has_allocator) return;
-    CHECK(memory.exists == (there != NULL) && memory.memory == (there ? there->block : 0));
-    CHECK(memory.mapped == (there && (account.flags[at] & 2)) && shown == named);
+    CHECK(block.exists == (there != NULL) && block.memory == (there ? there->block : 0) && block.size == (there ? there->account.size : 0));
+    CHECK(block.mapped == (there && is_mapped(at)) && block.address == (there ? address_of(at, there->block) : 0));
+    CHECK(block.shared == (there && !there->dedicated) && shown == named);
     if (there) account_shows_all(&there->account, from, views, room, shown);
     else CHECK(shown == 0);
 }
@@ -595,6 +612,76 @@ static void ends_allocator(void) {
     has_allocator = false;
 }
 
+/* ---- a ring */
+
+static pilhangko_ring ring;
+static struct ring_account ring_account;
+static bool has_ring;
+
+static pilhangko_status ring_status(pilhangko_status status) {
+    return has_ring ? status : PILHANGKO_NO_HANDLE;
+}
+
+/* of no more bytes and frames than the account has room for, or of too many bytes for any ring */
+static void creates_ring(void) {
+    uint64_t size = next_number();
+    const size_t frames = next_byte() % RING_FRAMES;
+    if (size < UINT64_C(1) << 63) size %= RING_BYTES + 1;
+    const bool fits = size > 0 && size <= RING_BYTES;
+    const pilhangko_status status = has_ring ? PILHANGKO_IN_USE : fits ? PILHANGKO_OK : PILHANGKO_INVALID;
+    IS(pilhangko_ring_create(&ring, size, frames), status);
+    if (status != PILHANGKO_OK) return;
+    has_ring = true;
+    ring_begin(&ring_account, size, frames);
+}
+
+static void allocates_in_ring(void) {
+    const uint64_t size = next_number(), alignment = next_alignment();
+    uint64_t offset = 3, wanted = 3;
+    pilhangko_status status = ring_status(PILHANGKO_OK);
+    if (has_ring && (!size || !alignment)) status = PILHANGKO_INVALID;
+    if (status == PILHANGKO_OK && !ring_allocate(&ring_account, size, alignment, &wanted)) status = PILHANGKO_OUT_OF_MEMORY;
+    IS(pilhangko_ring_allocate(&ring, size, alignment, &offset), status);
+    fuzz_pieces[3] += status == PILHANGKO_OK;
+    CHECK(offset == wanted);
+}
+
+static void ends_frame_of_ring(void) {
+    uint64_t frame = 3, wanted = 3;
+    pilhangko_status status = ring_status(PILHANGKO_OK);
+    if (has_ring && !ring_end_frame(&ring_account, &wanted)) status = PILHANGKO_TOO_MANY_FRAMES;
+    IS(pilhangko_ring_end_frame(&ring, &frame), status);
+    CHECK(frame == wanted);
+}
+
+/* A frame near the oldest one, or any. */
+static uint64_t some_frame(void) {
+    const uint8_t how = next_byte();
+    return how < 240 ? ring_account.oldest + how % 8 - 1 : next_number();
+}
+
+static void retires_in_ring(void) {
+    const uint64_t frame = some_frame();
+    pilhangko_status status = ring_status(PILHANGKO_OK);
+    if (has_ring && !ring_retire(&ring_account, frame)) status = PILHANGKO_NOT_LIVE;
+    IS(pilhangko_ring_retire(&ring, frame), status);
+}
+
+static void looks_at_ring(void) {
+    const uint64_t frame = some_frame();
+    pilhangko_ring_counts counts;
+    pilhangko_ring_frame_counts held;
+    const bool flies = has_ring && ring_in_flight(&ring_account, frame);
+    IS(pilhangko_ring_frame_statistics(&ring, frame, &held), ring_status(flies ? PILHANGKO_OK : PILHANGKO_NOT_LIVE));
+    if (has_ring) ring_same(&ring_account, &ring);
+    else IS(pilhangko_ring_statistics(&ring, &counts), PILHANGKO_NO_HANDLE);
+}
+
+static void ends_ring(void) {
+    IS(pilhangko_ring_destroy(&ring), ring_status(PILHANGKO_OK));
+    has_ring = false;
+}
+
 /* ---- the calls */
 
 static void calls_block(uint8_t what) {
@@ -629,6 +716,15 @@ static void calls_allocator(uint8_t what) {
     else ends_allocator();
 }
 
+static void calls_ring(uint8_t what) {
+    if (what < 4) creates_ring();
+    else if (what < 30) allocates_in_ring();
+    else if (what < 38) ends_frame_of_ring();
+    else if (what < 46) retires_in_ring();
+    else if (what < 49) looks_at_ring();
+    else ends_ring();
+}
+
 int LLVMFuzzerTestOneInput(const uint8_t *bytes, size_t length) {
     input = bytes;
     input_left = length;
@@ -637,13 +733,16 @@ int LLVMFuzzerTestOneInput(const uint8_t *bytes, size_t length) {
     for (size_t i = 0; i < ACCOUNT_TYPES; i++) account.types[i].slot_count = 0;
     account.awaits_answer = false;
     for (unsigned calls = 0; input_left > 0 && calls < CALLS; calls++) {
+        const uint8_t handle = next_byte() % 8;
         const uint8_t what = next_byte();
-        if (what < 81) calls_block(what);
-        else if (what < 166) calls_type(what - 81);
-        else calls_allocator(what - 166);
+        if (handle < 2) calls_block(what % 81);
+        else if (handle < 4) calls_type(what % 85);
+        else if (handle < 7) calls_allocator(what % 90);
+        else calls_ring(what % 50);
     }
     if (has_block) ends_block(false);
     if (has_type) ends_type();
     if (has_allocator) ends_allocator();
+    if (has_ring) ends_ring();
     return 0;
 }

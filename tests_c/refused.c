@@ -51,6 +51,23 @@ static void virtual_blocks(void) {
     IS(pilhangko_virtual_block_destroy(&block), PILHANGKO_OK);
 }
 
+static void rings(void) {
+    pilhangko_ring ring = {0};
+    pilhangko_ring_counts counts;
+    uint64_t offset, frame;
+    TRIED(pilhangko_ring_create(&ring, 4096, 3), pilhangko_ring_destroy(&ring) == PILHANGKO_NO_HANDLE);
+    long before = heap_requests;
+    for (unsigned i = 0; i < 12; i++) {
+        for (unsigned j = 0; j < 4; j++) IS(pilhangko_ring_allocate(&ring, 200, 16, &offset), PILHANGKO_OK);
+        IS(pilhangko_ring_end_frame(&ring, &frame), PILHANGKO_OK);
+        if (i >= 2) IS(pilhangko_ring_retire(&ring, i - 2), PILHANGKO_OK);
+    }
+    IS(pilhangko_ring_statistics(&ring, &counts), PILHANGKO_OK);
+    CHECK(counts.frames == 2);
+    CHECK(heap_requests == before); /* no call but create takes memory */
+    IS(pilhangko_ring_destroy(&ring), PILHANGKO_OK);
+}
+
 static void memory_types(void) {
     pilhangko_memory_type type = {0};
     pilhangko_memory_type_settings settings = {true, 1, 4 * MB, 0, 4 * MB, 0, false, 0};
@@ -91,7 +108,7 @@ static void allocators(void) {
     pilhangko_allocator allocator = {0};
     const pilhangko_device_memory_type types[] = {{1, 0}, {6, 1}};
     const pilhangko_device_heap heaps[] = {{1024 * MB, 1}, {512 * MB, 0}};
-    const pilhangko_allocator_settings settings = {1, 4 * MB, 0, 4 * MB, 0, false};
+    const pilhangko_allocator_settings settings = {1, 4 * MB, 0, 4 * MB, 0};
     pilhangko_allocator_piece pieces[12];
     TRIED(pilhangko_allocator_create(&allocator, types, 2, heaps, 2, &settings),
         pilhangko_allocator_destroy(&allocator) == PILHANGKO_NO_HANDLE);
@@ -104,7 +121,7 @@ static void allocators(void) {
         pieces[i] = progress.piece;
         if (progress.kind == PILHANGKO_PROGRESS_QUESTION) {
             long before = heap_requests;
-            IS(pilhangko_allocator_granted(&allocator, i, &pieces[i]), PILHANGKO_OK);
+            IS(pilhangko_allocator_granted(&allocator, i, i % 2, &pieces[i]), PILHANGKO_OK);
             CHECK(heap_requests == before); /* granted takes no memory */
             capacity += progress.question.size;
         }
@@ -121,6 +138,7 @@ static void allocators(void) {
 
 int main(void) {
     virtual_blocks();
+    rings();
     memory_types();
     allocators();
     long ample = heap_requests;
@@ -130,6 +148,7 @@ int main(void) {
         heap_refused = n;
         unsigned before = refusals;
         virtual_blocks();
+        rings();
         memory_types();
         allocators();
         CHECK(refusals == before + 1);

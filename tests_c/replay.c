@@ -21,7 +21,7 @@ struct refusal {
 static pilhangko_device_memory_type types[MOST_TYPES];
 static pilhangko_device_heap heaps[MOST_TYPES];
 static size_t type_count, heap_count;
-static pilhangko_allocator_settings settings = {1, 256 << 20, 0, 64 << 20, 0, true};
+static pilhangko_allocator_settings settings = {1, 256 << 20, 0, 64 << 20, 0};
 static struct refusal refusals[MOST_REFUSALS];
 static size_t refusal_count;
 
@@ -110,7 +110,7 @@ static pilhangko_status answered(pilhangko_allocator_progress *p) {
     if (question.mapped) memories[last_memory].mapped = (unsigned char *)calloc(1, (size_t)question.size);
     CHECK(!question.mapped || memories[last_memory].mapped);
     p->kind = PILHANGKO_PROGRESS_PIECE;
-    return pilhangko_allocator_granted(&allocator, last_memory, &p->piece);
+    return pilhangko_allocator_granted(&allocator, last_memory, (uintptr_t)memories[last_memory].mapped, &p->piece);
 }
 
 static uint32_t location_of(const char *word) {
@@ -161,13 +161,13 @@ static void alloc(char **word) {
     binds(number, &p.piece, is_dedicated);
     printf("ok type %zu slot %zu offset %" PRIu64 " size %" PRIu64 " chunk %" PRIu64, p.piece.memory_type, piece->slot, piece->offset,
         piece->size, piece->number);
-    printf(" dedicated %s mapped %s\n", is_dedicated ? "true" : "false", p.piece.mapped ? "true" : "false");
+    printf(" dedicated %s mapped %s\n", is_dedicated ? "true" : "false", p.piece.address ? "true" : "false");
 }
 
 /* ---- the other commands of a number ---- */
 
 static void frees(struct bound *b) {
-    pilhangko_allocator_memory back = {false, false, 0};
+    pilhangko_allocator_memory back = {false, false, 0, 0};
     if (!b->is_null) IS(pilhangko_allocator_free(&allocator, &b->piece, &back), PILHANGKO_OK);
     if (back.exists) gives_back(back.memory, back.mapped);
     b->is_bound = false;
@@ -182,7 +182,7 @@ static void renames(const struct bound *b, const char *name) {
 /* Where the bytes of an allocation are; NULL, with the reply, where they can't be reached. */
 static unsigned char *bytes_of(const struct bound *b, uint64_t at, uint64_t length) {
     const pilhangko_memory_piece *piece = &b->piece.piece;
-    if (b->is_null || !b->piece.mapped) {
+    if (b->is_null || b->piece.address == 0) {
         puts("none");
         return NULL;
     }
@@ -190,7 +190,7 @@ static unsigned char *bytes_of(const struct bound *b, uint64_t at, uint64_t leng
         puts("range");
         return NULL;
     }
-    return memories[piece->block].mapped + piece->offset + at;
+    return (unsigned char *)(uintptr_t)b->piece.address + piece->offset + at;
 }
 
 static void writes(const struct bound *b, uint64_t at, const char *hex) {
@@ -236,7 +236,7 @@ static void reports(void) {
         taken += type.piece_bytes;
         capacity += type.capacity;
         for (size_t slot = 0; slot < type.slots; slot++) {
-            pilhangko_allocator_memory block;
+            pilhangko_allocator_live_block block;
             IS(pilhangko_allocator_block(&allocator, t, slot, &block), PILHANGKO_OK);
             if (block.exists) reports_block(t, slot, block.memory, &row, lines, sizeof lines);
         }
@@ -273,7 +273,7 @@ static void destroys(bool tells) {
     pilhangko_type_statistics type;
     for (size_t t = 0; pilhangko_allocator_type_statistics(&allocator, t, &type) == PILHANGKO_OK; t++)
         for (size_t slot = 0; slot < type.slots; slot++) {
-            pilhangko_allocator_memory block;
+            pilhangko_allocator_live_block block;
             IS(pilhangko_allocator_block(&allocator, t, slot, &block), PILHANGKO_OK);
             if (block.exists) gives_back(block.memory, block.mapped);
         }

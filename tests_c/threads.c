@@ -11,6 +11,8 @@
 struct handles {
     pilhangko_virtual_block block;
     pilhangko_memory_type type;
+    pilhangko_ring ring;
+    uint64_t frames[2];
     pilhangko_virtual_piece placed[PIECES];
     pilhangko_memory_piece pieces[PIECES];
 };
@@ -19,19 +21,23 @@ static void begun(struct handles *h) {
     const pilhangko_memory_type_settings settings = {true, 64, 4 * MB, 8 * MB, 4 * MB, 8 * MB, false, 0};
     IS(pilhangko_virtual_block_create(&h->block, 64 * 1024, 64), PILHANGKO_OK);
     IS(pilhangko_memory_type_create(&h->type, &settings), PILHANGKO_OK);
+    IS(pilhangko_ring_create(&h->ring, 64 * 1024, 2), PILHANGKO_OK);
 }
 
-/* allocates the pieces of even or of odd index, under names that take host memory of their own */
+/* allocates the pieces of even or of odd index, under names that take host memory of their own; those of a ring are a frame */
 static void fills(struct handles *h, size_t first) {
     for (size_t i = first; i < PIECES; i += 2) {
         const pilhangko_virtual_request request = {100, 8, PILHANGKO_KIND_LINEAR};
         const pilhangko_memory_request wanted = {200 * 1024, 256, PILHANGKO_KIND_NON_LINEAR, i % 16 == 0};
         pilhangko_memory_prepared prepared;
+        uint64_t offset;
+        IS(pilhangko_ring_allocate(&h->ring, 100, 8, &offset), PILHANGKO_OK);
         IS(pilhangko_virtual_block_allocate(&h->block, &request, "a name that takes host memory", &h->placed[i]), PILHANGKO_OK);
         IS(pilhangko_memory_type_prepare(&h->type, &wanted, "another name that takes host memory", &prepared), PILHANGKO_OK);
         h->pieces[i] = prepared.piece;
         if (prepared.needs_block) IS(pilhangko_memory_type_install(&h->type, 1000 + i, &h->pieces[i]), PILHANGKO_OK);
     }
+    IS(pilhangko_ring_end_frame(&h->ring, &h->frames[first]), PILHANGKO_OK);
 }
 
 static void empties(struct handles *h, size_t first) {
@@ -41,11 +47,15 @@ static void empties(struct handles *h, size_t first) {
         IS(pilhangko_virtual_block_free(&h->block, &h->placed[i]), PILHANGKO_NOT_LIVE);
         IS(pilhangko_memory_type_free(&h->type, &h->pieces[i], &gone), PILHANGKO_OK);
     }
+    IS(pilhangko_ring_retire(&h->ring, h->frames[first]), PILHANGKO_OK);
 }
 
 static void has(const struct handles *h, size_t pieces) {
     size_t count = 0, live = 0;
     pilhangko_memory_statistics s;
+    pilhangko_ring_counts counts;
+    IS(pilhangko_ring_statistics(&h->ring, &counts), PILHANGKO_OK);
+    CHECK(counts.frames == 2 * pieces / PIECES);
     IS(pilhangko_virtual_block_leak_count(&h->block, &count), PILHANGKO_OK);
     IS(pilhangko_memory_type_statistics(&h->type, &s), PILHANGKO_OK);
     for (size_t slot = 0; slot < s.slots; slot++) {
@@ -74,6 +84,7 @@ static void *ends(void *handles) {
     has(h, PIECES / 2);
     IS(pilhangko_virtual_block_destroy(&h->block), PILHANGKO_OK);
     IS(pilhangko_memory_type_destroy(&h->type), PILHANGKO_OK);
+    IS(pilhangko_ring_destroy(&h->ring), PILHANGKO_OK);
     return NULL;
 }
 
@@ -85,7 +96,7 @@ static void on_another_thread(void *(*run)(void *), struct handles *h) {
 
 /* filled here, changed there, and changed here again; then destroyed on a third thread */
 static void there_and_back(void) {
-    struct handles h = {{0}, {0}, {{0, 0}}, {{0, 0, 0, 0, 0}}};
+    struct handles h = {{0}, {0}, {0}, {0, 0}, {{0, 0}}, {{0, 0, 0, 0, 0}}};
     begun(&h);
     fills(&h, 0);
     on_another_thread(changes, &h);
@@ -96,6 +107,7 @@ static void there_and_back(void) {
     on_another_thread(ends, &h);
     IS(pilhangko_virtual_block_destroy(&h.block), PILHANGKO_NO_HANDLE);
     IS(pilhangko_memory_type_destroy(&h.type), PILHANGKO_NO_HANDLE);
+    IS(pilhangko_ring_destroy(&h.ring), PILHANGKO_NO_HANDLE);
 }
 
 static pthread_mutex_t lock = PTHREAD_MUTEX_INITIALIZER;

@@ -121,6 +121,49 @@ static void flush_rows(void) {
     ends(&vulkan, 4);
 }
 
+static void refuses_next(uint64_t which, enum fake_answer answer, VkResult code) {
+    fake.refusals[0].question = fake.questions + which;
+    fake.refusals[0].answer = answer;
+    fake.refusals[0].code = code;
+}
+
+/* Copies flush and invalidate as much as they copy. */
+static void copy_rows(void) {
+    pilhangko_vulkan vulkan = made();
+    const pilhangko_vulkan_request shared = asks(100, 8, PILHANGKO_LOCATION_UNKNOWN), coherent = asks(100, 2, PILHANGKO_LOCATION_UNKNOWN),
+                                   unseen = asks(100, 1, PILHANGKO_LOCATION_UNKNOWN);
+    const pilhangko_vulkan_allocation first = allocates(&vulkan, &shared), a = allocates(&vulkan, &shared), c = allocates(&vulkan, &coherent),
+                                      d = allocates(&vulkan, &unseen);
+    const unsigned char *bytes = pilhangko_vulkan_mapped(&vulkan, &a);
+    unsigned char back[4] = {9, 9, 9, 9};
+    CHECK(first.offset == 0 && a.offset == 128);
+    IS(pilhangko_vulkan_copy_to(&vulkan, "abcd", 4, &a, 62).status, OK);
+    CHECK(memcmp(bytes + 62, "abcd", 4) == 0 && bytes[61] == 0 && bytes[66] == 0);
+    is_flushed(a.memory, 128, 128, 1, 0);
+    IS(pilhangko_vulkan_copy_from(&vulkan, &a, 63, back, 2).status, OK);
+    CHECK(memcmp(back, "bc\x09\x09", 4) == 0);
+    is_flushed(a.memory, 128, 128, 1, 1);
+    IS(pilhangko_vulkan_copy_to(&vulkan, NULL, 0, &a, 100).status, OK);
+    IS(pilhangko_vulkan_copy_from(&vulkan, &a, 100, NULL, 0).status, OK);
+    IS(pilhangko_vulkan_copy_to(&vulkan, "xyz", 3, &c, 97).status, OK);
+    IS(pilhangko_vulkan_copy_from(&vulkan, &c, 98, back, 2).status, OK);
+    CHECK(memcmp(back, "yz\x09\x09", 4) == 0);
+    IS(pilhangko_vulkan_copy_to(&vulkan, back, 2, &a, 99).status, PILHANGKO_VULKAN_OUT_OF_RANGE);
+    IS(pilhangko_vulkan_copy_to(&vulkan, back, SIZE_MAX, &a, 0).status, PILHANGKO_VULKAN_OUT_OF_RANGE);
+    IS(pilhangko_vulkan_copy_from(&vulkan, &a, 0, back, SIZE_MAX).status, PILHANGKO_VULKAN_OUT_OF_RANGE);
+    IS(pilhangko_vulkan_copy_from(&vulkan, &a, 101, back, 0).status, PILHANGKO_VULKAN_OUT_OF_RANGE);
+    IS(pilhangko_vulkan_copy_to(&vulkan, back, 1, &d, 0).status, PILHANGKO_VULKAN_NOT_MAPPED);
+    IS(pilhangko_vulkan_copy_from(&vulkan, &d, 0, back, 1).status, PILHANGKO_VULKAN_NOT_MAPPED);
+    CHECK(fake.flushes == 1 && fake.invalidations == 1 && memcmp(back, "yz\x09\x09", 4) == 0);
+    refuses_next(1, FAKE_REFUSES, VK_ERROR_OUT_OF_HOST_MEMORY);
+    const pilhangko_vulkan_result to = pilhangko_vulkan_copy_to(&vulkan, "e", 1, &a, 0);
+    CHECK(to.status == PILHANGKO_VULKAN_CALL_FAILED && to.driver == VK_ERROR_OUT_OF_HOST_MEMORY && bytes[0] == 'e');
+    refuses_next(1, FAKE_REFUSES, VK_ERROR_OUT_OF_DEVICE_MEMORY);
+    const pilhangko_vulkan_result from = pilhangko_vulkan_copy_from(&vulkan, &a, 0, back, 1);
+    CHECK(from.status == PILHANGKO_VULKAN_CALL_FAILED && from.driver == VK_ERROR_OUT_OF_DEVICE_MEMORY && back[0] == 'y');
+    ends(&vulkan, 4);
+}
+
 static VkBufferCreateInfo buffer_of(VkDeviceSize size) {
     VkBufferCreateInfo info;
     memset(&info, 0, sizeof info);
@@ -332,6 +375,8 @@ static void each_call(pilhangko_vulkan *v, unsigned null, pilhangko_status expec
     IS(pilhangko_vulkan_free(v, null ? NULL : &a), expected);
     IS(pilhangko_vulkan_flush(v, null ? NULL : &a, 0, 1).status, expected);
     IS(pilhangko_vulkan_invalidate(v, null ? NULL : &a, 0, 1).status, expected);
+    IS(pilhangko_vulkan_copy_to(v, null == 1 ? NULL : &request, 1, allocation, 0).status, expected);
+    IS(pilhangko_vulkan_copy_from(v, allocation, 0, null == 1 ? NULL : &request, 1).status, expected);
     IS(pilhangko_vulkan_rename(v, null ? NULL : &a, NULL), expected);
     IS(pilhangko_vulkan_end_capture(v, null ? NULL : &capture), expected);
     CHECK(pilhangko_vulkan_mapped(v, null ? NULL : &a) == NULL);
@@ -448,8 +493,8 @@ static void foreign_allocations(void) {
     const pilhangko_vulkan_request r = asks(100, 2, PILHANGKO_LOCATION_UNKNOWN);
     IS(pilhangko_vulkan_create(&other, &settings), PILHANGKO_OK);
     const pilhangko_vulkan_allocation mine = allocates(&vulkan, &r), others = allocates(&other, &r);
-    CHECK(
-        mine.piece.memory_type == others.piece.memory_type && memcmp(&mine.piece.piece, &others.piece.piece, sizeof mine.piece.piece) == 0);
+    CHECK(mine.piece.memory_type == others.piece.memory_type && mine.piece.piece.slot == others.piece.piece.slot);
+    CHECK(mine.offset == others.offset && mine.piece.piece.number == others.piece.piece.number);
     for (unsigned field = 0; field < 6; field++) {
         pilhangko_vulkan_allocation wrong = mine;
         bool live = true;
@@ -464,6 +509,8 @@ static void foreign_allocations(void) {
         IS(pilhangko_vulkan_free(&vulkan, &wrong), PILHANGKO_NOT_LIVE);
         IS(pilhangko_vulkan_flush(&vulkan, &wrong, 0, 1).status, PILHANGKO_NOT_LIVE);
         IS(pilhangko_vulkan_invalidate(&vulkan, &wrong, 0, 1).status, PILHANGKO_NOT_LIVE);
+        IS(pilhangko_vulkan_copy_to(&vulkan, &live, sizeof live, &wrong, 0).status, PILHANGKO_NOT_LIVE);
+        IS(pilhangko_vulkan_copy_from(&vulkan, &wrong, 0, &live, sizeof live).status, PILHANGKO_NOT_LIVE);
         IS(pilhangko_vulkan_rename(&vulkan, &wrong, "name"), PILHANGKO_NOT_LIVE);
         IS(pilhangko_vulkan_rename(&vulkan, &wrong, "\xff"), PILHANGKO_INVALID);
         IS(pilhangko_vulkan_destroy_buffer(&vulkan, (VkBuffer)(uint64_t)5, &wrong), PILHANGKO_NOT_LIVE);
@@ -549,12 +596,6 @@ static void readings(void) {
 
 /* ---- the driver refuses */
 
-static void refuses_next(uint64_t which, enum fake_answer answer, VkResult code) {
-    fake.refusals[0].question = fake.questions + which;
-    fake.refusals[0].answer = answer;
-    fake.refusals[0].code = code;
-}
-
 static void is_refused(pilhangko_vulkan *vulkan, const pilhangko_vulkan_request *r, pilhangko_status status, VkResult driver) {
     pilhangko_vulkan_allocation a;
     const size_t held = fake.memory_count;
@@ -581,11 +622,11 @@ static void driver_refusals(void) {
     refuses_next(2, FAKE_GIVES_NOTHING, VK_SUCCESS);
     is_refused(&vulkan, &host, PILHANGKO_FAILED_TO_MAP, VK_SUCCESS);
     (void)allocates(&vulkan, &device);
-    refuses_next(1, FAKE_GIVES_HELD, VK_SUCCESS);
-    is_refused(&vulkan, &large, PILHANGKO_DRIVER_REFUSED, VK_SUCCESS);
+    refuses_next(1, FAKE_REFUSES, VK_ERROR_OUT_OF_HOST_MEMORY);
+    is_refused(&vulkan, &large, PILHANGKO_DRIVER_REFUSED, VK_ERROR_OUT_OF_HOST_MEMORY);
     refuses_next(1, FAKE_REFUSES, VK_ERROR_OUT_OF_DEVICE_MEMORY);
     const pilhangko_vulkan_allocation second = allocates(&vulkan, &upload); /* the second attempt, at memory type 1 */
-    CHECK(second.piece.memory_type == 1 && second.piece.mapped);
+    CHECK(second.piece.memory_type == 1 && second.piece.address != 0);
     ends(&vulkan, 2);
 }
 
@@ -665,9 +706,9 @@ static unsigned script(pilhangko_vulkan *vulkan, pilhangko_vulkan_result *last) 
 /* An upload has a second attempt where its memory is refused, so up to one call of the script fails. */
 static void each_question_refused(void) {
     const struct fake_refusal ways[] = {{0, FAKE_REFUSES, VK_ERROR_OUT_OF_DEVICE_MEMORY}, {0, FAKE_REFUSES, VK_ERROR_OUT_OF_HOST_MEMORY},
-        {0, FAKE_REFUSES, VK_INCOMPLETE}, {0, FAKE_GIVES_NOTHING, VK_SUCCESS}, {0, FAKE_GIVES_HELD, VK_SUCCESS}};
+        {0, FAKE_REFUSES, VK_INCOMPLETE}, {0, FAKE_GIVES_NOTHING, VK_SUCCESS}};
     unsigned failed = 0, passed = 0;
-    for (unsigned way = 0; way < 5; way++) {
+    for (unsigned way = 0; way < 4; way++) {
         for (uint64_t question = 1;; question++) {
             pilhangko_vulkan vulkan = made();
             pilhangko_vulkan_result last = {PILHANGKO_OK, VK_SUCCESS};
@@ -883,6 +924,7 @@ static void unwritten_captures(void) {
 int main(void) {
     memory_rows();
     flush_rows();
+    copy_rows();
     resource_rows(0);
     resource_rows(VK_API_VERSION_1_0);
     resource_rows(VK_API_VERSION_1_1);

@@ -44,7 +44,7 @@ static double seconds_since(clock_t begin) {
 static double through_the_library(void) {
     pilhangko_device_memory_type types[TYPES];
     const pilhangko_device_heap heap = {UINT64_C(1) << 30, 0};
-    const pilhangko_allocator_settings settings = {64, UINT64_C(256) << 20, 0, UINT64_C(64) << 20, 0, false};
+    const pilhangko_allocator_settings settings = {64, UINT64_C(256) << 20, 0, UINT64_C(64) << 20, 0};
     pilhangko_allocator_request request = {256, 64, 1, PILHANGKO_KIND_LINEAR, PILHANGKO_LOCATION_GPU_ONLY, PILHANGKO_SCHEME_BUFFER, 1};
     pilhangko_allocator allocator = {0};
     pilhangko_allocator_progress progress;
@@ -55,7 +55,7 @@ static double through_the_library(void) {
     for (uint64_t i = 0; i < BLOCKS; i++) {
         request.memory_type_bits = UINT32_C(1) << i % TYPES;
         IS(pilhangko_allocator_begin(&allocator, &request, "block", &progress), PILHANGKO_OK);
-        IS(pilhangko_allocator_granted(&allocator, i, &piece), PILHANGKO_OK);
+        IS(pilhangko_allocator_granted(&allocator, i, 0, &piece), PILHANGKO_OK);
     }
     IS(pilhangko_allocator_destroy(&allocator), PILHANGKO_OK);
     return seconds_since(begin);

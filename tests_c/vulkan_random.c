@@ -57,7 +57,7 @@ static void reply_allocation(const pilhangko_allocator_piece *p, bool dedicated)
     reply_budgets();
     snprintf(line, sizeof line, "ok type %zu slot %zu offset %llu size %llu chunk %llu dedicated %s mapped %s", p->memory_type,
         p->piece.slot, (unsigned long long)p->piece.offset, (unsigned long long)p->piece.size, (unsigned long long)p->piece.number,
-        word_of(dedicated), word_of(p->mapped));
+        word_of(dedicated), word_of(p->address != 0));
     reply(line);
 }
 
@@ -77,7 +77,7 @@ static pilhangko_status memory_status(uint64_t question) {
     const struct fake_refusal *r = fake_refusal_of(question);
     if (!r) return PILHANGKO_OK;
     if (r->answer == FAKE_REFUSES) return r->code == VK_ERROR_OUT_OF_DEVICE_MEMORY ? PILHANGKO_OUT_OF_MEMORY : PILHANGKO_DRIVER_REFUSED;
-    return r->answer == FAKE_GIVES_HELD && fake.memory_count > 0 ? PILHANGKO_DRIVER_REFUSED : PILHANGKO_OUT_OF_MEMORY;
+    return PILHANGKO_OUT_OF_MEMORY;
 }
 
 struct foretold {
@@ -132,7 +132,7 @@ static void meets(const pilhangko_vulkan_allocation *a) {
     const struct fake_memory *memory = fake_memory_of(a->memory);
     CHECK(memory->size == slot->account.size && memory->type == account.type && memory->has_address);
     unsigned char *bytes = pilhangko_vulkan_mapped(&vulkan, a);
-    CHECK(bytes == (a->piece.mapped ? memory->bytes + a->offset : NULL));
+    CHECK(bytes == (a->piece.address ? memory->bytes + a->offset : NULL));
     if (bytes) bytes[0] = bytes[a->size - 1] = 1; /* within the memory, or the sanitizer stops here */
 }
 
@@ -171,7 +171,7 @@ static void plans_refusals(void) {
         VK_ERROR_MEMORY_MAP_FAILED};
     for (size_t i = 0; i < 2; i++) {
         fake.refusals[i].question = random_below(2) == 0 ? fake.questions + 1 + random_below(4) : 0;
-        fake.refusals[i].answer = (enum fake_answer)(1 + random_below(3));
+        fake.refusals[i].answer = (enum fake_answer)(1 + random_below(2));
         fake.refusals[i].code = codes[random_below(5)];
     }
     if (fake.refusals[0].question == fake.refusals[1].question) fake.refusals[1].question = 0;

@@ -1,0 +1,96 @@
+/* Several threads at once on one binding, which locks itself: each allocates and frees memory of its own, looks at it, renames it, and sets
+ * bounds that never count. What the fake driver is asked, it is asked under the lock. */
+#include "fake_vulkan.h"
+#include <pthread.h>
+
+#define THREADS 4
+#define TURNS 2000
+#define LIVE 8
+
+static pilhangko_vulkan vulkan;
+
+static pilhangko_vulkan_request asks(uint64_t size, uint32_t bits) {
+    pilhangko_vulkan_request request;
+    memset(&request, 0, sizeof request);
+    request.requirements.size = size;
+    request.requirements.alignment = 16;
+    request.requirements.memoryTypeBits = bits;
+    request.location = PILHANGKO_LOCATION_UNKNOWN;
+    request.kind = PILHANGKO_KIND_LINEAR;
+    request.scheme = PILHANGKO_SCHEME_MANAGED;
+    request.name = "a name that takes host memory of its own";
+    return request;
+}
+
+/* its bytes, where the host sees them */
+static void fills(const pilhangko_vulkan_allocation *a, unsigned char byte) {
+    unsigned char *bytes = pilhangko_vulkan_mapped(&vulkan, a);
+    if (bytes) memset(bytes, byte, (size_t)a->size);
+}
+
+/* no other thread's allocation lies there */
+static void has(const pilhangko_vulkan_allocation *a, unsigned char byte) {
+    const unsigned char *bytes = pilhangko_vulkan_mapped(&vulkan, a);
+    for (VkDeviceSize i = 0; bytes && i < a->size; i++) CHECK(bytes[i] == byte);
+}
+
+static void *takes_turns(void *number) {
+    const unsigned char byte = *(const unsigned char *)number;
+    pilhangko_vulkan_allocation live[LIVE];
+    for (unsigned turn = 0; turn < TURNS; turn++) {
+        pilhangko_vulkan_allocation *a = &live[turn % LIVE];
+        const pilhangko_vulkan_request request = asks(64 + turn % 100 * 16, turn % 3 ? 2 : 1);
+        bool is_live = false;
+        VkDeviceSize bytes;
+        if (turn >= LIVE) {
+            has(a, byte);
+            IS(pilhangko_vulkan_free(&vulkan, a), PILHANGKO_OK);
+            IS(pilhangko_vulkan_free(&vulkan, a), PILHANGKO_NOT_LIVE);
+        }
+        IS(pilhangko_vulkan_allocate(&vulkan, &request, a).status, PILHANGKO_OK);
+        fills(a, byte);
+        IS(pilhangko_vulkan_rename(&vulkan, a, "another name that takes host memory"), PILHANGKO_OK);
+        IS(pilhangko_vulkan_is_live(&vulkan, a, &is_live), PILHANGKO_OK);
+        IS(pilhangko_vulkan_capacity(&vulkan, &bytes), PILHANGKO_OK);
+        CHECK(is_live && bytes >= a->size);
+        IS(pilhangko_vulkan_set_budget(&vulkan, 0, turn % 2 == 0, UINT64_MAX), PILHANGKO_OK);
+    }
+    for (unsigned i = 0; i < LIVE; i++) IS(pilhangko_vulkan_free(&vulkan, &live[i]), PILHANGKO_OK);
+    return NULL;
+}
+
+/* looks at the allocator behind the binding between lock and unlock */
+static void *looks(void *unused) {
+    (void)unused;
+    for (unsigned turn = 0; turn < TURNS; turn++) {
+        pilhangko_type_statistics counted;
+        IS(pilhangko_vulkan_lock(&vulkan), PILHANGKO_OK);
+        IS(pilhangko_allocator_statistics(pilhangko_vulkan_allocator(&vulkan), &counted), PILHANGKO_OK);
+        IS(pilhangko_vulkan_unlock(&vulkan), PILHANGKO_OK);
+        CHECK(counted.pieces <= THREADS * LIVE);
+    }
+    return NULL;
+}
+
+int main(void) {
+    unsigned char numbers[THREADS];
+    pthread_t threads[THREADS + 1];
+    pilhangko_vulkan_ending ending;
+    pilhangko_vulkan_settings settings = fake_settings();
+    settings.capture_write = NULL;
+    fake_begin();
+    IS(pilhangko_vulkan_create(&vulkan, &settings), PILHANGKO_OK);
+    CHECK(pthread_create(&threads[THREADS], NULL, looks, NULL) == 0);
+    for (unsigned i = 0; i < THREADS; i++) {
+        numbers[i] = (unsigned char)(i + 1);
+        CHECK(pthread_create(&threads[i], NULL, takes_turns, &numbers[i]) == 0);
+    }
+    for (unsigned i = 0; i <= THREADS; i++) CHECK(pthread_join(threads[i], NULL) == 0);
+    IS(pilhangko_vulkan_destroy(&vulkan, &ending), PILHANGKO_OK);
+    CHECK(ending.leaks == 0);
+    IS(pilhangko_vulkan_lock(NULL), PILHANGKO_NULL_POINTER);
+    IS(pilhangko_vulkan_lock(&vulkan), PILHANGKO_NO_HANDLE);
+    IS(pilhangko_vulkan_unlock(NULL), PILHANGKO_NULL_POINTER);
+    IS(pilhangko_vulkan_unlock(&vulkan), PILHANGKO_NO_HANDLE);
+    return 0;
+}
