@@ -2,7 +2,8 @@
 //!
 //! [`vulkan`] has the allocator under the names of the crate gpu-allocator: it asks the driver for large blocks, cuts them up by best fit,
 //! and gives them back. [`virtual_block`] and [`memory_type`] are what it stands on, for any graphics API: one block of numbers, and the
-//! blocks of one memory type.
+//! blocks of one memory type. [`ring`] is a block of numbers for uploads, freed a frame at a time; [`vulkan::UploadRing`] has memory behind it.
+//! [`plan()`] lets transient resources of a frame share memory.
 //!
 //! What decides where a piece lies, which block is asked for and which goes back is the library `libgpu_c.a`, proved and built from
 //! contracts; this crate asks the driver, maps memory, and owns the handles. All of it may go from thread to thread, and serves
@@ -21,10 +22,12 @@ mod error;
 mod heap;
 pub mod memory_type;
 mod pieces;
+pub mod plan;
 mod raw;
 #[cfg(test)]
 mod refused;
 mod report;
+pub mod ring;
 mod settings;
 mod sizes;
 pub mod virtual_block;
@@ -33,7 +36,9 @@ pub mod vulkan;
 pub use error::{AllocationError, Fault, Result};
 pub use memory_type::MemoryType;
 pub use pieces::{Kind, NamedPiece, PieceView};
+pub use plan::plan;
 pub use report::{AllocationReport, AllocatorReport, MemoryBlockReport};
+pub use ring::Ring;
 pub use settings::{AllocatorDebugSettings, Level, Logger, MemoryLocation};
 pub use sizes::AllocationSizes;
 pub use virtual_block::VirtualBlock;

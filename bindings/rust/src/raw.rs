@@ -1,5 +1,5 @@
 //! The archive's symbols and what crosses to them, as include/pilhangko.h declares them. The types that own a handle (`VirtualBlock`,
-//! `MemoryType`, the Vulkan allocator) are the only callers.
+//! `Ring`, `MemoryType`, the Vulkan allocator) are the only callers.
 
 use std::cell::UnsafeCell;
 use std::ffi::c_void;
@@ -18,6 +18,7 @@ pub(crate) const DRIVER_REFUSED: u32 = 12;
 pub(crate) const NO_SUCH_TYPE: u32 = 13;
 pub(crate) const NO_SUCH_HEAP: u32 = 15;
 pub(crate) const AWAITS_BLOCK: u32 = 102;
+pub(crate) const TOO_MANY_FRAMES: u32 = 106;
 
 pub(crate) const KIND_LINEAR: u32 = 1;
 pub(crate) const KIND_NON_LINEAR: u32 = 2;
@@ -30,6 +31,12 @@ pub(crate) const LOCATION_GPU_TO_CPU: u32 = 4;
 pub(crate) const SCHEME_MANAGED: u32 = 1;
 pub(crate) const SCHEME_BUFFER: u32 = 2;
 pub(crate) const SCHEME_IMAGE: u32 = 3;
+
+pub(crate) const PLAN_ORDER_SIZE: u32 = 1;
+pub(crate) const PLAN_ORDER_AREA: u32 = 2;
+pub(crate) const PLAN_ORDER_ALIGNMENT: u32 = 3;
+pub(crate) const PLAN_ORDER_MAGNITUDE: u32 = 4;
+pub(crate) const PLAN_ORDER_BREADTH: u32 = 5;
 
 pub(crate) const PROGRESS_PIECE: u32 = 1;
 pub(crate) const PROGRESS_QUESTION: u32 = 2;
@@ -94,6 +101,31 @@ pub(crate) struct PieceView {
     pub(crate) offset: u64,
     pub(crate) end: u64,
     pub(crate) kind: u32,
+}
+
+#[repr(C)]
+#[derive(Debug, Default)]
+pub(crate) struct RingFrameCounts {
+    pub(crate) pieces: u64,
+    pub(crate) bytes: u64,
+}
+
+#[repr(C)]
+#[derive(Debug, Default)]
+pub(crate) struct RingCounts {
+    pub(crate) size: u64,
+    pub(crate) taken: u64,
+    pub(crate) frames: usize,
+    pub(crate) oldest: u64,
+    pub(crate) current: RingFrameCounts,
+}
+
+#[repr(C)]
+#[derive(Debug, Default)]
+pub(crate) struct RingStretch {
+    pub(crate) offset: u64,
+    pub(crate) size: u64,
+    pub(crate) rest: u64,
 }
 
 #[repr(C)]
@@ -173,7 +205,6 @@ pub(crate) struct AllocatorSettings {
     pub(crate) largest_device_block_size: u64,
     pub(crate) host_block_size: u64,
     pub(crate) largest_host_block_size: u64,
-    pub(crate) device_address: bool,
 }
 
 #[repr(C)]
@@ -192,7 +223,7 @@ pub(crate) struct AllocatorRequest {
 #[derive(Clone, Copy, Debug, Default)]
 pub(crate) struct AllocatorPiece {
     pub(crate) memory_type: usize,
-    pub(crate) mapped: bool,
+    pub(crate) address: u64,
     pub(crate) piece: MemoryPiece,
 }
 
@@ -200,10 +231,8 @@ pub(crate) struct AllocatorPiece {
 #[derive(Clone, Copy, Debug, Default)]
 pub(crate) struct AllocatorQuestion {
     pub(crate) size: u64,
-    pub(crate) memory_type: u32,
-    pub(crate) scheme: u32,
-    pub(crate) resource: u64,
-    pub(crate) device_address: bool,
+    pub(crate) memory_type: usize,
+    pub(crate) dedicated: bool,
     pub(crate) mapped: bool,
 }
 
@@ -222,6 +251,18 @@ pub(crate) struct AllocatorMemory {
     pub(crate) exists: bool,
     pub(crate) mapped: bool,
     pub(crate) memory: u64,
+    pub(crate) address: u64,
+}
+
+#[repr(C)]
+#[derive(Debug, Default)]
+pub(crate) struct AllocatorBlock {
+    pub(crate) exists: bool,
+    pub(crate) mapped: bool,
+    pub(crate) shared: bool,
+    pub(crate) memory: u64,
+    pub(crate) address: u64,
+    pub(crate) size: u64,
 }
 
 #[repr(C)]
@@ -250,6 +291,24 @@ pub(crate) type DeviceMemoryType = crate::vulkan::MemoryType;
 
 /// A heap of a device, laid out as `VkMemoryHeap` is.
 pub(crate) type DeviceHeap = crate::vulkan::MemoryHeap;
+
+#[repr(C)]
+#[derive(Clone, Copy, Debug)]
+pub(crate) struct PlanResource {
+    pub(crate) size: u64,
+    pub(crate) alignment: u64,
+    pub(crate) kind: u32,
+    pub(crate) first_pass: u64,
+    pub(crate) last_pass: u64,
+}
+
+#[repr(C)]
+#[derive(Clone, Copy, Debug, Default)]
+pub(crate) struct HeapPlan {
+    pub(crate) heap_size: u64,
+    pub(crate) peak: u64,
+    pub(crate) order: u32,
+}
 
 extern "C" {
     pub(crate) fn pilhangko_raw_virtual_block_create(block: *mut Handle, size: u64, page_size: u64) -> u32;
@@ -288,6 +347,19 @@ extern "C" {
         count: *mut usize,
     ) -> u32;
     pub(crate) fn pilhangko_raw_virtual_block_destroy(block: *mut Handle) -> u32;
+
+    pub(crate) fn pilhangko_raw_ring_create(ring: *mut Handle, size: u64, frames: usize) -> u32;
+    pub(crate) fn pilhangko_raw_ring_allocate(ring: *mut Handle, size: u64, alignment: u64, offset: *mut u64) -> u32;
+    pub(crate) fn pilhangko_raw_ring_end_frame(ring: *mut Handle, frame: *mut u64) -> u32;
+    pub(crate) fn pilhangko_raw_ring_retire(ring: *mut Handle, frame: u64) -> u32;
+    pub(crate) fn pilhangko_raw_ring_statistics(ring: *mut Handle, counts: *mut RingCounts) -> u32;
+    pub(crate) fn pilhangko_raw_ring_current_stretch(ring: *mut Handle, stretch: *mut RingStretch) -> u32;
+    pub(crate) fn pilhangko_raw_ring_frame_statistics(
+        ring: *mut Handle,
+        frame: u64,
+        counts: *mut RingFrameCounts,
+    ) -> u32;
+    pub(crate) fn pilhangko_raw_ring_destroy(ring: *mut Handle) -> u32;
 
     pub(crate) fn pilhangko_raw_memory_type_create(
         memory_type: *mut Handle,
@@ -381,6 +453,7 @@ extern "C" {
     pub(crate) fn pilhangko_raw_allocator_granted(
         allocator: *mut Handle,
         memory: u64,
+        address: u64,
         piece: *mut AllocatorPiece,
     ) -> u32;
     pub(crate) fn pilhangko_raw_allocator_refused(
@@ -427,6 +500,12 @@ extern "C" {
         memory_type: usize,
         statistics: *mut TypeStatistics,
     ) -> u32;
+    pub(crate) fn pilhangko_raw_allocator_block(
+        allocator: *mut Handle,
+        memory_type: usize,
+        slot: usize,
+        block: *mut AllocatorBlock,
+    ) -> u32;
     pub(crate) fn pilhangko_raw_allocator_block_statistics(
         allocator: *mut Handle,
         memory_type: usize,
@@ -468,4 +547,23 @@ extern "C" {
         length: *mut usize,
     ) -> u32;
     pub(crate) fn pilhangko_raw_allocator_destroy(allocator: *mut Handle) -> u32;
+
+    pub(crate) fn pilhangko_raw_plan(
+        resources: *const PlanResource,
+        count: usize,
+        page_size: u64,
+        offsets: *mut u64,
+        room: usize,
+        plan: *mut HeapPlan,
+    ) -> u32;
+    pub(crate) fn pilhangko_raw_plan_reuses(
+        resources: *const PlanResource,
+        count: usize,
+        offsets: *const u64,
+        offset_count: usize,
+        index: usize,
+        reused: *mut usize,
+        room: usize,
+        reused_count: *mut usize,
+    ) -> u32;
 }

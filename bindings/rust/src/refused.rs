@@ -5,9 +5,10 @@ pub(crate) mod common;
 
 use crate::heap::refusing::{has_refused, held, refuse};
 use crate::memory_type::{MemoryRequest, Prepared};
+use crate::plan::Resource;
 use crate::virtual_block::VirtualRequest;
 use crate::vulkan::{AllocationCreateDesc, AllocationScheme, Allocator, AllocatorCreateDesc, MemoryRequirements};
-use crate::{AllocationError, Kind, MemoryLocation, MemoryType, Result, VirtualBlock};
+use crate::{plan, AllocationError, Kind, MemoryLocation, MemoryType, Result, Ring, VirtualBlock};
 use common::FakeDriver;
 
 /// Names that are too long to be kept without host memory.
@@ -59,6 +60,24 @@ fn of_a_virtual_block() {
     block.allocate(&request, NAME).unwrap();
     assert!(held() > 0);
     drop(block);
+    assert_eq!(held(), 0);
+}
+
+#[test]
+fn of_a_ring() {
+    let (mut ring, refusals) = in_turn(&mut (), |()| Ring::new(100, 2), |()| ());
+    assert!(refusals > 0);
+    refuse(1); // no later call needs any
+    for number in 0..10 {
+        assert_eq!((ring.allocate(40, 1), ring.allocate(10, 1)), (Ok(0), Ok(40)));
+        assert_eq!(ring.end_frame().map(|it| it.number), Some(number));
+        assert!(ring.retire(crate::ring::Frame { number }));
+        assert_eq!(ring.statistics().taken + ring.current_stretch().size, 0);
+    }
+    assert!(!has_refused());
+    refuse(0);
+    assert!(held() > 0);
+    drop(ring);
     assert_eq!(held(), 0);
 }
 
@@ -122,5 +141,20 @@ fn of_the_vulkan_allocator() {
     let commands = allocator.destroy().map_or(0, |capture| capture.lines().filter(|it| it.contains("alloc ")).count());
     assert_eq!(commands, pieces); // what the host refused isn't captured
     driver.assert_left_empty();
+    assert_eq!(held(), 0);
+}
+
+#[test]
+fn of_a_plan() {
+    let resource =
+        |first_pass| Resource { size: 100, alignment: 4, kind: Kind::Linear, first_pass, last_pass: first_pass };
+    let resources: Vec<_> = (0..40).map(|index| resource(index / 2)).collect();
+    let (planned, refusals) = in_turn(&mut (), |()| plan(&resources, 1), |()| ());
+    assert!(refusals > 0);
+    assert_eq!((planned.heap_size(), planned.peak()), (200, 200));
+    let (reused, refusals) = in_turn(&mut (), |()| planned.reuses(39), |()| ());
+    assert!(refusals > 0);
+    assert_eq!(reused.len(), 19);
+    drop((planned, reused));
     assert_eq!(held(), 0);
 }

@@ -3,11 +3,11 @@
 
 mod common;
 
-use common::{Asked, FakeDriver, Refusal, MB};
+use common::{Asked, FakeDriver, Refusal, Visible, MB};
 use pilhangko::memory_type::BlockStatistics;
 use pilhangko::vulkan::{
     Allocation, AllocationCreateDesc, AllocationScheme, Allocator, AllocatorCreateDesc, Buffer, Image,
-    MemoryPropertyFlags, MemoryRequirements, TypeStatistics,
+    MemoryPropertyFlags, MemoryRequirements, SharedAllocator, TypeStatistics,
 };
 use pilhangko::{AllocationError, AllocationSizes, AllocatorDebugSettings, Fault, Level, Logger, MemoryLocation};
 use std::sync::{Arc, Mutex};
@@ -384,6 +384,105 @@ fn allocations_that_may_need_flushes_lie_in_whole_atoms() {
     assert_eq!(placed(100, 0, 8, MemoryLocation::Unknown), Err(AllocationError::InvalidAllocationCreateDesc));
 }
 
+/// An allocation of memory type `memory_type`, alone.
+fn of_type(a: &mut Allocator, size: u64, memory_type: u32) -> Allocation {
+    let requirements = MemoryRequirements { size, alignment: 4, memory_type_bits: 1 << memory_type };
+    a.allocate(&AllocationCreateDesc { requirements, ..request(1, MemoryLocation::Unknown) }).unwrap()
+}
+
+/// Memory types: the device's own, the host's, and the host's that isn't coherent, whose atoms are of 64 bytes.
+fn driver_with_flushes() -> Box<FakeDriver> {
+    FakeDriver::new(&[(1, 0), (6, 1), (10, 1)], &[1 << 30, 1 << 30], 1).with_atoms(64)
+}
+
+fn faulty(text: &'static str, code: Option<i64>) -> Result<(), AllocationError> {
+    Err(AllocationError::Internal(Fault { text, code }))
+}
+
+#[test]
+fn flushes_grow_to_whole_atoms() {
+    let driver = driver_with_flushes();
+    let mut a = made(&driver);
+    let large = of_type(&mut a, 10 * MB + 10, 2); // a block of its size alone, which ends within an atom
+    let (first, second) = (of_type(&mut a, 100, 2), of_type(&mut a, 100, 2));
+    assert_eq!((large.offset(), second.offset()), (0, 128));
+    let made_visible = |call: &dyn Fn() -> Result<(), AllocationError>| {
+        driver.state().visible.clear();
+        assert_eq!(call(), Ok(()));
+        let state = driver.state();
+        state.visible.iter().map(|it| (it.invalidated, it.memory, it.offset, it.size)).collect::<Vec<_>>()
+    };
+    let shared = memory(&second);
+    assert_eq!(made_visible(&|| a.flush(&second, ..)), [(false, shared, 128, 128)]);
+    assert_eq!(made_visible(&|| a.flush(&second, 64..65)), [(false, shared, 192, 64)]);
+    assert_eq!(made_visible(&|| a.flush(&second, 63..=64)), [(false, shared, 128, 128)]);
+    assert_eq!(made_visible(&|| a.invalidate(&second, ..64)), [(true, shared, 128, 64)]);
+    assert_eq!(made_visible(&|| a.invalidate(&second, 99..)), [(true, shared, 192, 64)]);
+    assert_eq!(made_visible(&|| a.flush(&large, 10 * MB + 9..)), [(false, memory(&large), 10 * MB, 10)]);
+    assert_eq!(made_visible(&|| a.flush(&second, 100..)), []);
+    assert_eq!(made_visible(&|| a.flush(&second, 7..7)), []);
+    let coherent = of_type(&mut a, 100, 1);
+    assert_eq!(made_visible(&|| a.flush(&coherent, ..)), []);
+    for it in [large, first, second, coherent] {
+        a.free(it).unwrap();
+    }
+    drop(a);
+    driver.assert_left_empty();
+}
+
+#[test]
+fn copies_are_flushed() {
+    let driver = driver_with_flushes();
+    let mut a = made(&driver);
+    let (mut it, mut unmapped) = (of_type(&mut a, 100, 2), of_type(&mut a, 100, 0));
+    let visible = || std::mem::take(&mut driver.state().visible);
+    assert_eq!(a.copy_to(b"abcd", &mut it, 62), Ok(()));
+    assert_eq!(&it.mapped_slice().unwrap()[61..67], b"\0abcd\0");
+    let memory = memory(&it);
+    assert_eq!(visible(), [Visible { invalidated: false, memory, offset: 0, size: 128 }]);
+    let mut back = [9; 2];
+    assert_eq!(a.copy_from(&it, 64, &mut back), Ok(()));
+    assert_eq!((back, visible()), (*b"cd", vec![Visible { invalidated: true, memory, offset: 64, size: 64 }]));
+    let outside = faulty("Range is not inside the allocation.", None);
+    assert_eq!(a.copy_to(b"ab", &mut it, 99), outside);
+    assert_eq!(a.copy_from(&it, u64::MAX, &mut back), outside);
+    assert_eq!(a.copy_to(b"ab", &mut unmapped, 0), faulty("Allocation is not mapped.", None));
+    assert_eq!(a.copy_from(&unmapped, 0, &mut back), faulty("Allocation is not mapped.", None));
+    assert_eq!((back, visible()), (*b"cd", vec![]));
+    let next = driver.state().questions + 1;
+    driver.refuse(next, Refusal::Code(-1));
+    driver.refuse(next + 1, Refusal::Code(-2));
+    assert_eq!(a.copy_to(b"e", &mut it, 0), faulty("vkFlushMappedMemoryRanges failed", Some(-1)));
+    assert_eq!(a.copy_from(&it, 0, &mut back), faulty("vkInvalidateMappedMemoryRanges failed", Some(-2)));
+    assert_eq!((back, it.mapped_slice().unwrap()[0]), (*b"cd", b'e'));
+}
+
+#[test]
+fn flushes_are_refused_by_their_cause() {
+    let (driver, other) = (driver_with_flushes(), driver_with_flushes());
+    let (mut a, mut b) = (made(&driver), made(&other));
+    let (it, unmapped, foreign) = (of_type(&mut a, 100, 2), of_type(&mut a, 100, 0), of_type(&mut b, 100, 2));
+    let outside = faulty("Range is not inside the allocation.", None);
+    assert_eq!(a.flush(&it, 101..), outside);
+    assert_eq!(a.flush(&it, ..101), outside);
+    assert_eq!(a.invalidate(&it, 1..=u64::MAX), outside);
+    #[allow(clippy::reversed_empty_ranges, reason = "it is what is refused")]
+    let reversed = a.invalidate(&it, 2..1);
+    assert_eq!(reversed, outside);
+    assert_eq!(a.flush(&unmapped, ..), faulty("Allocation is not mapped.", None));
+    let elsewhere = faulty("Allocation does not belong to this allocator.", None);
+    assert_eq!(a.invalidate(&foreign, ..), elsewhere);
+    assert_eq!(a.flush(&Allocation::default(), ..), elsewhere);
+    assert_eq!(driver.state().visible, []);
+    let next = driver.state().questions + 1;
+    driver.refuse(next, Refusal::Code(-1));
+    driver.refuse(next + 1, Refusal::Code(-2));
+    assert_eq!(a.flush(&it, ..), faulty("vkFlushMappedMemoryRanges failed", Some(-1)));
+    assert_eq!(a.invalidate(&it, ..), faulty("vkInvalidateMappedMemoryRanges failed", Some(-2)));
+    assert_eq!(a.flush(&it, ..), Ok(()));
+    drop((a, b));
+}
+
 /// The lines that a logger was handed.
 type Lines = Arc<Mutex<Vec<(Level, String)>>>;
 
@@ -529,6 +628,40 @@ fn an_allocator_and_its_allocations_go_from_thread_to_thread() {
     let a = a.into_inner().unwrap();
     assert!(a.generate_report().allocations.is_empty());
     drop(a);
+    driver.assert_left_empty();
+}
+
+/// Four threads at once on one allocator; each one's bytes stay its own.
+#[test]
+fn a_shared_allocator_serves_several_threads_at_once() {
+    let driver = driver();
+    let shared = SharedAllocator::new(made(&driver));
+    thread::scope(|scope| {
+        for number in 1..=4 {
+            let shared = shared.clone();
+            scope.spawn(move || {
+                let mut live = Vec::new();
+                for turn in 0..500 {
+                    let mut it = shared.allocate(&request(100 + turn % 7 * 50, MemoryLocation::GpuToCpu)).unwrap();
+                    it.mapped_slice_mut().expect("readbacks are mapped").fill(number);
+                    live.push(it);
+                    if turn % 3 == 0 {
+                        let freed: Allocation = live.swap_remove(turn as usize % live.len());
+                        assert!(freed.mapped_slice().unwrap().iter().all(|byte| *byte == number));
+                        shared.free(freed).unwrap();
+                    }
+                    assert!(shared.lock().capacity() >= 4 * MB);
+                }
+                live.into_iter().for_each(|it| shared.free(it).unwrap());
+            });
+        }
+    });
+    let mut allocator = shared.into_inner().expect("the threads' clones are gone");
+    assert_eq!(allocator.statistics().pieces, 0);
+    let foreign = made(&driver).allocate(&request(100, MemoryLocation::GpuOnly)).unwrap();
+    assert!(!allocator.is_live(&foreign));
+    assert!(allocator.free(foreign).is_err());
+    drop(allocator);
     driver.assert_left_empty();
 }
 

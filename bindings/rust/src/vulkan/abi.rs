@@ -152,6 +152,27 @@ impl MemoryDedicatedAllocateInfo {
     pub const STRUCTURE_TYPE: i32 = 1_000_127_001;
 }
 
+/// `VkMappedMemoryRange`.
+#[repr(C)]
+#[derive(Debug)]
+pub struct MappedMemoryRange {
+    /// `STRUCTURE_TYPE`.
+    pub s_type: i32,
+    /// Null.
+    pub next: *const c_void,
+    /// The memory, which is mapped.
+    pub memory: DeviceMemory,
+    /// Where the range begins, in bytes.
+    pub offset: u64,
+    /// How many bytes it has.
+    pub size: u64,
+}
+
+impl MappedMemoryRange {
+    /// `VK_STRUCTURE_TYPE_MAPPED_MEMORY_RANGE`.
+    pub const STRUCTURE_TYPE: i32 = 6;
+}
+
 /// `VK_SUCCESS`.
 pub(crate) const SUCCESS: i32 = 0;
 
@@ -174,10 +195,13 @@ pub type MapMemory = unsafe extern "system" fn(*mut c_void, DeviceMemory, u64, u
 /// `vkUnmapMemory`: device, memory.
 pub type UnmapMemory = unsafe extern "system" fn(*mut c_void, DeviceMemory);
 
+/// `vkFlushMappedMemoryRanges` or `vkInvalidateMappedMemoryRanges`: device, how many ranges, the ranges; it returns a `VkResult`.
+pub type SyncMappedMemoryRanges = unsafe extern "system" fn(*mut c_void, u32, *const MappedMemoryRange) -> i32;
+
 /// Any of Vulkan's functions, as `vkGetDeviceProcAddr` returns it (`PFN_vkVoidFunction`).
 pub type VoidFunction = unsafe extern "system" fn();
 
-/// The four functions of a device that the allocator calls.
+/// The six functions of a device that the allocator calls.
 #[derive(Clone, Copy, Debug)]
 pub struct DeviceFunctions {
     /// `vkAllocateMemory`.
@@ -188,6 +212,10 @@ pub struct DeviceFunctions {
     pub map_memory: MapMemory,
     /// `vkUnmapMemory`.
     pub unmap_memory: UnmapMemory,
+    /// `vkFlushMappedMemoryRanges`.
+    pub flush_mapped_memory_ranges: SyncMappedMemoryRanges,
+    /// `vkInvalidateMappedMemoryRanges`.
+    pub invalidate_mapped_memory_ranges: SyncMappedMemoryRanges,
 }
 
 impl DeviceFunctions {
@@ -205,6 +233,12 @@ impl DeviceFunctions {
                 free_memory: std::mem::transmute::<VoidFunction, FreeMemory>(named(c"vkFreeMemory")?),
                 map_memory: std::mem::transmute::<VoidFunction, MapMemory>(named(c"vkMapMemory")?),
                 unmap_memory: std::mem::transmute::<VoidFunction, UnmapMemory>(named(c"vkUnmapMemory")?),
+                flush_mapped_memory_ranges: std::mem::transmute::<VoidFunction, SyncMappedMemoryRanges>(named(
+                    c"vkFlushMappedMemoryRanges",
+                )?),
+                invalidate_mapped_memory_ranges: std::mem::transmute::<VoidFunction, SyncMappedMemoryRanges>(named(
+                    c"vkInvalidateMappedMemoryRanges",
+                )?),
             })
         }
     }
@@ -230,5 +264,8 @@ mod tests {
         assert_eq!(size_of::<MemoryDedicatedAllocateInfo>(), 32);
         assert_eq!(offset_of!(MemoryDedicatedAllocateInfo, image), 16);
         assert_eq!(offset_of!(MemoryDedicatedAllocateInfo, buffer), 24);
+        assert_eq!(size_of::<MappedMemoryRange>(), 40);
+        assert_eq!(offset_of!(MappedMemoryRange, memory), 16);
+        assert_eq!(offset_of!(MappedMemoryRange, size), 32);
     }
 }

@@ -21,10 +21,10 @@ pub struct Allocation {
 #[derive(Debug)]
 pub(super) struct Held {
     pub(super) piece: AllocatorPiece,
+    /// The number of its allocator, which no other has, nor had.
+    pub(super) owner: u64,
     /// The number of the request, by which a capture knows it.
     pub(super) number: u64,
-    pub(super) memory: DeviceMemory,
-    pub(super) address: Option<Address>,
     pub(super) flags: MemoryPropertyFlags,
     pub(super) is_dedicated: bool,
 }
@@ -47,7 +47,7 @@ impl Allocation {
     /// Whoever uses the handle binds resources at `offset` that take no more than `size` bytes, doesn't free, map or unmap the memory, and
     /// destroys each resource before the allocation is freed.
     pub unsafe fn memory(&self) -> DeviceMemory {
-        self.held.as_ref().map_or(DeviceMemory::default(), |held| held.memory)
+        self.held.as_ref().map_or(DeviceMemory::default(), |held| DeviceMemory(held.piece.piece.block))
     }
 
     /// Whether memory of its own was asked for. A block that was made for its size alone doesn't count.
@@ -108,7 +108,9 @@ impl Allocation {
     }
 
     fn address(&self) -> Option<Address> {
-        self.held.as_ref()?.address
+        let AllocatorPiece { address, piece, .. } = &self.held.as_ref()?.piece;
+        // SAFETY: a piece lies inside its block, which is mapped whole.
+        Some(unsafe { Address::from_number(*address)?.at(piece.offset) })
     }
 
     fn mapped_bytes(&self) -> Option<(NonNull<u8>, usize)> {

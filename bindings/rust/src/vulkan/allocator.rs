@@ -2,15 +2,14 @@
 
 use super::abi::{Buffer, Image, MemoryRequirements};
 use super::allocation::{Allocation, Held};
-use super::blocks::{Block, Blocks};
 use super::capture::Capture;
-use super::device::{Answer, Device, Memory, Refusal};
-use super::machine::{Machine, Progress, Question};
+use super::device::{Answer, Device, Purpose, Refusal};
+use super::machine::{LiveBlock, Machine, Progress, Question};
 use super::reading;
 use crate::error::{check, copied};
 use crate::memory_type::BlockStatistics;
 use crate::pieces::Visited;
-use crate::raw::{AllocatorPiece, DRIVER_REFUSED, FAILED_TO_MAP};
+use crate::raw::{AllocatorPiece, DRIVER_REFUSED, FAILED_TO_MAP, NOT_LIVE};
 use crate::{
     AllocationError, AllocationSizes, AllocatorDebugSettings, AllocatorReport, Fault, Level, Logger, MemoryLocation,
     NamedPiece, Result,
@@ -113,8 +112,8 @@ impl TypeStatistics {
     }
 }
 
-/// Numbers of blocks: each names one block of all allocators, so that no allocator takes another one's allocation for its own.
-fn next_block_number() -> u64 {
+/// Numbers of allocators: none comes again, so that no allocator takes another one's allocation for its own.
+fn next_owner() -> u64 {
     static NEXT: AtomicU64 = AtomicU64::new(1);
     NEXT.fetch_add(1, Ordering::Relaxed)
 }
@@ -123,9 +122,9 @@ fn next_block_number() -> u64 {
 /// gives all blocks back to the driver and logs the allocations that are live still.
 pub struct Allocator {
     machine: Machine,
-    blocks: Blocks,
+    owner: u64,
     requests: u64,
-    sizes: AllocationSizes,
+    device_address: bool,
     debug_settings: AllocatorDebugSettings,
     logger: Option<Logger>,
     capture: Option<Capture>,
@@ -140,11 +139,11 @@ impl Allocator {
         let AllocatorCreateDesc { device, allocation_sizes, .. } = desc;
         device.check()?;
         let allocator = Allocator {
-            machine: Machine::new(device, allocation_sizes, desc.buffer_device_address)?,
-            blocks: Blocks::new(device)?,
+            machine: Machine::new(device, allocation_sizes)?,
+            owner: next_owner(),
             requests: 0,
+            device_address: desc.buffer_device_address,
             capture: desc.capture.then(|| Capture::new(device, allocation_sizes)).transpose()?,
-            sizes: *allocation_sizes,
             debug_settings: desc.debug_settings,
             logger: desc.logger.clone(),
         };
@@ -190,15 +189,12 @@ impl Allocator {
     /// Frees what an allocation holds, and leaves it null but for its name.
     fn release(&mut self, allocation: &mut Allocation) -> Result<()> {
         let Some(held) = &allocation.held else { return Ok(()) };
-        let (memory_type, slot) = (held.piece.memory_type, held.piece.piece.slot);
-        let is_block_gone = self.machine.free(&held.piece)?;
+        self.owns(held)?;
+        self.machine.free(&held.piece)?;
         if let Some(capture) = &mut self.capture {
             capture.freed(held.number);
         }
         allocation.held = None;
-        if is_block_gone {
-            self.blocks.give_back(memory_type, slot);
-        }
         Ok(())
     }
 
@@ -208,6 +204,7 @@ impl Allocator {
     pub fn rename_allocation(&mut self, allocation: &mut Allocation, name: &str) -> Result<()> {
         let own = copied(name)?;
         if let Some(held) = &allocation.held {
+            self.owns(held)?;
             self.machine.rename(&held.piece, name)?;
             if let Some(capture) = &mut self.capture {
                 capture.renamed(held.number, name);
@@ -219,7 +216,7 @@ impl Allocator {
 
     /// Whether an allocation is this allocator's and live.
     pub fn is_live(&self, allocation: &Allocation) -> bool {
-        allocation.held.as_ref().is_some_and(|held| self.machine.is_live(&held.piece))
+        allocation.held.as_ref().is_some_and(|held| self.owns(held).is_ok() && self.machine.is_live(&held.piece))
     }
 
     /// Bounds the sum of the sizes of a memory type's blocks in bytes, or takes the bound away. A bound below the present sum gives no
@@ -270,7 +267,7 @@ impl Allocator {
     /// What is held: pieces and blocks by memory type, slot and offset. Where the host has no memory for it, the program ends, as it does
     /// wherever Rust's lists have none; `report_json` and `named_pieces` return an error instead.
     pub fn generate_report(&self) -> AllocatorReport {
-        reading::report(&self.machine, &self.blocks).unwrap_or_else(|_| out_of_host_memory())
+        reading::report(&self.machine).unwrap_or_else(|_| out_of_host_memory())
     }
 
     /// The report as JSON (`gpu_report.allocator` of docs/REPORT.md).
@@ -284,7 +281,7 @@ impl Allocator {
     /// next ones, the last line says so.
     pub fn report_memory_leaks(&self, log_level: Level) {
         if let Some(logger) = &self.logger {
-            let told = reading::leaks(&self.machine, &self.blocks, |leak| logger.log(log_level, &leak.to_string()));
+            let told = reading::leaks(&self.machine, |leak| logger.log(log_level, &leak.to_string()));
             if told.is_err() {
                 logger.log(log_level, "the host refused memory for further leaks");
             }
@@ -293,7 +290,7 @@ impl Allocator {
 
     /// The device that is asked for memory.
     pub fn device(&self) -> &Device {
-        self.blocks.device()
+        self.machine.device()
     }
 
     /// What was asked of the allocator by now, where that is recorded.
@@ -311,7 +308,6 @@ impl Allocator {
     /// A request from its beginning to its end.
     fn serve(&mut self, desc: &AllocationCreateDesc<'_>) -> Result<Allocation> {
         let name = copied(desc.name)?;
-        self.blocks.reserve()?;
         let piece = self.place(desc)?;
         Ok(Allocation { held: Some(self.held(piece, desc.allocation_scheme)), name: Some(name) })
     }
@@ -324,8 +320,8 @@ impl Allocator {
             progress = match progress {
                 Progress::Piece(piece) => return Ok(piece),
                 Progress::Refused(status) => return Err(error_of(status, refusal)),
-                Progress::Question(question) => match self.ask(&question) {
-                    Answer::Granted(memory) => return Ok(self.install(&question, memory)),
+                Progress::Question(question) => match self.ask(&question, desc.allocation_scheme) {
+                    Answer::Granted(memory) => return Ok(self.machine.granted(memory)),
                     Answer::MemoryRefused(refused) => {
                         refusal = Some(refused);
                         self.machine.refused(refused.memory_code())
@@ -339,35 +335,43 @@ impl Allocator {
         }
     }
 
-    fn ask(&mut self, question: &Question) -> Answer {
-        let answer = self.device().ask(question);
+    fn ask(&mut self, question: &Question, scheme: AllocationScheme) -> Answer {
+        let answer = self.device().ask(question, Purpose { scheme, device_address: self.device_address });
         if let Some(capture) = &mut self.capture {
             capture.asked(question.mapped, &answer);
         }
         answer
     }
 
-    /// Puts in the block that the driver granted, with its first piece. Nothing fails here: there is room for it.
-    fn install(&mut self, question: &Question, memory: Memory) -> AllocatorPiece {
-        let piece = self.machine.granted(next_block_number());
-        let live = self.blocks.shared_count(piece.memory_type);
-        let shared_size = self.sizes.memblock_size(question.mapped, live);
-        let is_managed = question.scheme == AllocationScheme::GpuAllocatorManaged;
-        // a block of a piece's own is larger than the next shared one, or asked for
-        let is_shared = is_managed && question.size == shared_size;
-        self.blocks.install(piece.memory_type, piece.piece.slot, Block { memory, size: question.size, is_shared });
-        piece
+    /// What a live allocation of this allocator stands for.
+    pub(super) fn live<'a>(&self, allocation: &'a Allocation) -> Result<&'a Held> {
+        match &allocation.held {
+            Some(held) if self.is_live(allocation) => Ok(held),
+            _ => Err(check(NOT_LIVE).expect_err("a piece that isn't live")),
+        }
+    }
+
+    /// The block that a piece lies in.
+    pub(super) fn block_of(&self, held: &Held) -> Option<LiveBlock> {
+        self.machine.live_block(held.piece.memory_type, held.piece.piece.slot)
+    }
+
+    /// Whether an allocation is of this allocator.
+    fn owns(&self, held: &Held) -> Result<()> {
+        if held.owner == self.owner {
+            Ok(())
+        } else {
+            check(NOT_LIVE)
+        }
     }
 
     /// What the owner of a new piece holds of it.
     fn held(&self, piece: AllocatorPiece, scheme: AllocationScheme) -> Held {
-        let (memory_type, slot) = (piece.memory_type, piece.piece.slot);
         Held {
             piece,
+            owner: self.owner,
             number: self.requests,
-            memory: self.blocks.block(memory_type, slot).memory.handle,
-            address: self.blocks.address(memory_type, slot, piece.piece.offset),
-            flags: self.device().memory_types()[memory_type].property_flags,
+            flags: self.device().memory_types()[piece.memory_type].property_flags,
             is_dedicated: scheme != AllocationScheme::GpuAllocatorManaged,
         }
     }
@@ -445,6 +449,8 @@ mod tests {
     use super::*;
     use crate::refused::common::script::Script;
     use crate::refused::common::FakeDriver;
+    use crate::vulkan::device::Memory;
+    use crate::vulkan::DeviceMemory;
     use std::sync::Mutex;
     use std::time::Instant;
 
@@ -488,13 +494,13 @@ mod tests {
             allocation_scheme: AllocationScheme::DedicatedBuffer(Buffer(1)),
         };
         let begin = Instant::now();
-        let mut machine = Machine::new(&driver.device(), &AllocationSizes::default(), false).unwrap();
+        let mut machine = Machine::new(&driver.device(), &AllocationSizes::default()).unwrap();
         for number in 1..=20_000 {
             assert!(matches!(machine.begin(&own), Ok(Progress::Question(_))));
-            machine.granted(number);
+            machine.granted(Memory { handle: DeviceMemory(number), address: None });
         }
         let alone = begin.elapsed();
-        drop(machine);
+        std::mem::forget(machine); // the driver never gave this memory, and takes none of it back
         let begin = Instant::now();
         let mut allocator = Allocator::new(&AllocatorCreateDesc::new(driver.device())).unwrap();
         let live: Vec<Allocation> = (0..20_000).map(|_| allocator.allocate(&own).unwrap()).collect();

@@ -1,7 +1,7 @@
 //! The device that an allocator asks for memory.
 
 use super::abi::{
-    Buffer, DeviceFunctions, DeviceMemory, Image, MemoryAllocateFlagsInfo, MemoryAllocateInfo,
+    Buffer, DeviceFunctions, DeviceMemory, Image, MappedMemoryRange, MemoryAllocateFlagsInfo, MemoryAllocateInfo,
     MemoryDedicatedAllocateInfo, MemoryHeap, MemoryPropertyFlags, MemoryRequirements, MemoryType,
     PhysicalDeviceMemoryProperties, OUT_OF_DEVICE_MEMORY, SUCCESS, WHOLE_SIZE,
 };
@@ -10,6 +10,7 @@ use super::AllocationScheme;
 use crate::error::{invalid_device, INVALID_ATOM_SIZE, TOO_MANY_HEAPS, TOO_MANY_TYPES};
 use crate::Result;
 use std::ffi::c_void;
+use std::ops::Range;
 use std::ptr::{self, NonNull};
 
 /// Two limits of a device, by their names in `VkPhysicalDeviceLimits`.
@@ -21,7 +22,7 @@ pub struct DeviceLimits {
     pub non_coherent_atom_size: u64,
 }
 
-/// A Vulkan device as an allocator needs it: the handle, four functions, and what the physical device says of its memory. Clones stand for
+/// A Vulkan device as an allocator needs it: the handle, six functions, and what the physical device says of its memory. Clones stand for
 /// the same device.
 #[derive(Clone, Debug)]
 pub struct Device {
@@ -103,8 +104,8 @@ impl Device {
     }
 
     /// Asks the driver for the memory of a block, and to map it where it is to be mapped. Memory that it doesn't map goes back.
-    pub(super) fn ask(&self, question: &Question) -> Answer {
-        let memory = match self.allocate(question) {
+    pub(super) fn ask(&self, question: &Question, purpose: Purpose) -> Answer {
+        let memory = match self.allocate(question, purpose) {
             Err(refusal) => return Answer::MemoryRefused(refusal),
             Ok(memory) => memory,
         };
@@ -129,19 +130,43 @@ impl Device {
         self.free(memory.handle);
     }
 
+    /// Makes bytes of mapped memory, which is of `size` bytes, visible: to the device what the host wrote, or the reverse. They grow to whole
+    /// units of `nonCoherentAtomSize`, or up to the memory's end.
+    pub(super) fn sync(&self, way: Way, memory: DeviceMemory, size: u64, bytes: &Range<u64>) -> Result<(), i32> {
+        let atom = self.limits.non_coherent_atom_size;
+        let (first, rest) = (bytes.start - bytes.start % atom, bytes.end % atom);
+        let end = if rest == 0 { bytes.end } else { bytes.end + (atom - rest).min(size - bytes.end) };
+        let range = MappedMemoryRange {
+            s_type: MappedMemoryRange::STRUCTURE_TYPE,
+            next: ptr::null(),
+            memory,
+            offset: first,
+            size: end - first,
+        };
+        let function = match way {
+            Way::Flush => self.functions.flush_mapped_memory_ranges,
+            Way::Invalidate => self.functions.invalidate_mapped_memory_ranges,
+        };
+        // SAFETY: the device is live and the function its own (`new`), and the memory is mapped whole.
+        match unsafe { function(self.as_ptr(), 1, &range) } {
+            SUCCESS => Ok(()),
+            code => Err(code),
+        }
+    }
+
     fn as_ptr(&self) -> *mut c_void {
         self.handle as usize as *mut c_void
     }
 
-    fn allocate(&self, question: &Question) -> Result<DeviceMemory, Refusal> {
+    fn allocate(&self, question: &Question, purpose: Purpose) -> Result<DeviceMemory, Refusal> {
         let addresses = MemoryAllocateFlagsInfo {
             s_type: MemoryAllocateFlagsInfo::STRUCTURE_TYPE,
             next: ptr::null(),
             flags: MemoryAllocateFlagsInfo::DEVICE_ADDRESS,
             device_mask: 0,
         };
-        let with_addresses = if question.device_address { (&raw const addresses).cast() } else { ptr::null() };
-        let dedicated = dedicated_info(question.scheme, with_addresses);
+        let with_addresses = if purpose.device_address { (&raw const addresses).cast() } else { ptr::null() };
+        let dedicated = dedicated_info(purpose.scheme, with_addresses);
         let info = MemoryAllocateInfo {
             s_type: MemoryAllocateInfo::STRUCTURE_TYPE,
             next: dedicated.as_ref().map_or(with_addresses, |info| ptr::from_ref(info).cast()),
@@ -175,8 +200,17 @@ impl Device {
     }
 }
 
+/// Which way bytes become visible.
+#[derive(Clone, Copy, Debug)]
+pub(super) enum Way {
+    /// To the device, what the host wrote.
+    Flush,
+    /// To the host, what the device wrote.
+    Invalidate,
+}
+
 /// Whether the host sees such memory, and the device doesn't see what the host wrote until it is flushed.
-fn needs_flushes(flags: MemoryPropertyFlags) -> bool {
+pub(super) fn needs_flushes(flags: MemoryPropertyFlags) -> bool {
     flags.contains(MemoryPropertyFlags::HOST_VISIBLE) && !flags.contains(MemoryPropertyFlags::HOST_COHERENT)
 }
 
@@ -189,6 +223,14 @@ fn dedicated_info(scheme: AllocationScheme, next: *const c_void) -> Option<Memor
     };
     let s_type = MemoryDedicatedAllocateInfo::STRUCTURE_TYPE;
     Some(MemoryDedicatedAllocateInfo { s_type, next, image, buffer })
+}
+
+/// What memory is asked for, as the driver is told it.
+#[derive(Clone, Copy, Debug)]
+pub(super) struct Purpose {
+    pub(super) scheme: AllocationScheme,
+    /// Whether shaders may read its address.
+    pub(super) device_address: bool,
 }
 
 /// What the driver answers.
@@ -239,6 +281,16 @@ unsafe impl Send for Address {}
 unsafe impl Sync for Address {}
 
 impl Address {
+    /// As a number, which isn't 0.
+    pub(super) fn number(self) -> u64 {
+        self.0.as_ptr() as usize as u64
+    }
+
+    /// The address of that number; `None` of 0.
+    pub(super) fn from_number(number: u64) -> Option<Self> {
+        NonNull::new(number as usize as *mut u8).map(Address)
+    }
+
     /// The address so many bytes further.
     ///
     /// # Safety

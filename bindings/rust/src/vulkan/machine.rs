@@ -1,6 +1,7 @@
 //! The proved allocator, which calls no driver: it says what to ask for, and is told the answer.
 
-use super::abi::{Buffer, Image};
+use super::abi::DeviceMemory;
+use super::device::{Address, Memory};
 use super::{AllocationCreateDesc, AllocationScheme, Device, TypeStatistics};
 use crate::error::{check, check_unrefused};
 use crate::memory_type::BlockStatistics;
@@ -24,36 +25,37 @@ pub(super) enum Progress {
 pub(super) struct Question {
     pub(super) size: u64,
     pub(super) memory_type: u32,
-    pub(super) scheme: AllocationScheme,
-    pub(super) device_address: bool,
     pub(super) mapped: bool,
-}
-
-impl Question {
-    fn from_raw(question: &raw::AllocatorQuestion) -> Self {
-        let scheme = match question.scheme {
-            raw::SCHEME_BUFFER => AllocationScheme::DedicatedBuffer(Buffer(question.resource)),
-            raw::SCHEME_IMAGE => AllocationScheme::DedicatedImage(Image(question.resource)),
-            _ => AllocationScheme::GpuAllocatorManaged,
-        };
-        Question {
-            size: question.size,
-            memory_type: question.memory_type,
-            scheme,
-            device_address: question.device_address,
-            mapped: question.mapped,
-        }
-    }
 }
 
 impl Progress {
     fn from_raw(progress: &AllocatorProgress) -> Self {
+        let question = &progress.question;
         match progress.kind {
             raw::PROGRESS_PIECE => Progress::Piece(progress.piece),
-            raw::PROGRESS_QUESTION => Progress::Question(Question::from_raw(&progress.question)),
+            raw::PROGRESS_QUESTION => Progress::Question(Question {
+                size: question.size,
+                memory_type: question.memory_type as u32,
+                mapped: question.mapped,
+            }),
             _ => Progress::Refused(progress.status),
         }
     }
+}
+
+/// A live block, as a visit sees it.
+#[derive(Clone, Copy, Debug)]
+pub(super) struct LiveBlock {
+    pub(super) memory_type: usize,
+    pub(super) slot: usize,
+    pub(super) memory: Memory,
+    pub(super) size: u64,
+    pub(super) is_shared: bool,
+}
+
+/// The driver's memory by its number and the number of its address, as the library keeps them.
+fn memory_of(memory: u64, address: u64) -> Memory {
+    Memory { handle: DeviceMemory(memory), address: Address::from_number(address) }
 }
 
 fn location_number(location: MemoryLocation) -> u32 {
@@ -82,15 +84,16 @@ fn raw_request(desc: &AllocationCreateDesc<'_>) -> raw::AllocatorRequest {
     }
 }
 
-/// The allocator behind its handle.
+/// The allocator behind its handle, and the device that its blocks go back to: dropping it gives them all back, whatever else fails.
 #[derive(Debug)]
 pub(super) struct Machine {
     handle: Handle,
+    device: Device,
 }
 
 impl Machine {
     /// An allocator without blocks over a device whose properties make sense.
-    pub(super) fn new(device: &Device, sizes: &AllocationSizes, device_address: bool) -> Result<Self> {
+    pub(super) fn new(device: &Device, sizes: &AllocationSizes) -> Result<Self> {
         let (types, heaps, sizes) = (device.memory_types(), device.memory_heaps(), sizes.parts());
         let settings = raw::AllocatorSettings {
             page_size: device.limits().buffer_image_granularity,
@@ -98,13 +101,12 @@ impl Machine {
             largest_device_block_size: sizes.largest_device,
             host_block_size: sizes.host,
             largest_host_block_size: sizes.largest_host,
-            device_address,
         };
-        let machine = Machine { handle: Handle::empty() };
+        let handle = Handle::empty();
         // SAFETY: the handle is empty and this call's alone; types and heaps are as many as is said, and all of it outlives the call.
         check(unsafe {
             raw::pilhangko_raw_allocator_create(
-                machine.handle.as_ptr(),
+                handle.as_ptr(),
                 types.as_ptr(),
                 types.len(),
                 heaps.as_ptr(),
@@ -112,7 +114,12 @@ impl Machine {
                 &settings,
             )
         })?;
-        Ok(machine)
+        Ok(Machine { handle, device: device.clone() })
+    }
+
+    /// The device.
+    pub(super) fn device(&self) -> &Device {
+        &self.device
     }
 
     /// Begins a request. A question that it leads to has to be answered before the next request.
@@ -131,11 +138,14 @@ impl Machine {
         Ok(Progress::from_raw(&progress))
     }
 
-    /// The driver granted the memory, which is known by this number from now on. A question is open.
-    pub(super) fn granted(&mut self, number: u64) -> AllocatorPiece {
+    /// The driver granted this memory. A question is open.
+    pub(super) fn granted(&mut self, memory: Memory) -> AllocatorPiece {
         let mut piece = AllocatorPiece::default();
+        let address = memory.address.map_or(0, Address::number);
         // SAFETY: the handle is this machine's alone.
-        check_unrefused(unsafe { raw::pilhangko_raw_allocator_granted(self.handle.as_ptr(), number, &mut piece) });
+        check_unrefused(unsafe {
+            raw::pilhangko_raw_allocator_granted(self.handle.as_ptr(), memory.handle.0, address, &mut piece)
+        });
         piece
     }
 
@@ -162,12 +172,15 @@ impl Machine {
         Progress::from_raw(&progress)
     }
 
-    /// Frees a piece, and says whether its block goes back to the driver.
-    pub(super) fn free(&mut self, piece: &AllocatorPiece) -> Result<bool> {
+    /// Frees a piece, and gives its block back to the driver where that goes with it.
+    pub(super) fn free(&mut self, piece: &AllocatorPiece) -> Result<()> {
         let mut back = raw::AllocatorMemory::default();
         // SAFETY: the handle is this machine's alone, and the piece outlives the call.
         check(unsafe { raw::pilhangko_raw_allocator_free(self.handle.as_ptr(), piece, &mut back) })?;
-        Ok(back.exists)
+        if back.exists {
+            self.device.give_back(memory_of(back.memory, back.address));
+        }
+        Ok(())
     }
 
     /// Renames a live piece.
@@ -228,6 +241,24 @@ impl Machine {
             gaps: s.gaps,
             longest_gap: s.longest_gap,
         })
+    }
+
+    /// The live blocks by memory type and slot.
+    pub(super) fn blocks(&self) -> impl Iterator<Item = LiveBlock> + '_ {
+        (0..)
+            .map_while(|memory_type| Some((memory_type, self.type_statistics(memory_type)?.slots)))
+            .flat_map(move |(memory_type, slots)| (0..slots).filter_map(move |slot| self.live_block(memory_type, slot)))
+    }
+
+    /// The block in a slot of a memory type, if there is one.
+    pub(super) fn live_block(&self, memory_type: usize, slot: usize) -> Option<LiveBlock> {
+        let mut block = raw::AllocatorBlock::default();
+        // SAFETY: the handle is this machine's alone: it isn't `Sync`.
+        check_unrefused(unsafe {
+            raw::pilhangko_raw_allocator_block(self.handle.as_ptr(), memory_type, slot, &mut block)
+        });
+        let memory = memory_of(block.memory, block.address);
+        block.exists.then_some(LiveBlock { memory_type, slot, memory, size: block.size, is_shared: block.shared })
     }
 
     /// The block in a slot, as a visit sees it.
@@ -338,7 +369,8 @@ impl Visited for BlockAt<'_> {
 
 impl Drop for Machine {
     fn drop(&mut self) {
-        // SAFETY: the handle is this machine's alone, and isn't used again. An empty one, which `new` left, is refused.
+        self.blocks().for_each(|block| self.device.give_back(block.memory));
+        // SAFETY: the handle is this machine's alone, and isn't used again.
         unsafe { raw::pilhangko_raw_allocator_destroy(self.handle.as_ptr()) };
     }
 }

@@ -30,18 +30,24 @@
 mod abi;
 mod allocation;
 mod allocator;
-mod blocks;
 mod capture;
 mod device;
+mod flushing;
 mod machine;
 mod reading;
+mod shared;
+mod transient;
+mod upload_ring;
 
 pub use abi::{
-    AllocateMemory, Buffer, DeviceFunctions, DeviceMemory, FreeMemory, Image, MapMemory, MemoryAllocateFlagsInfo,
-    MemoryAllocateInfo, MemoryDedicatedAllocateInfo, MemoryHeap, MemoryPropertyFlags, MemoryRequirements, MemoryType,
-    PhysicalDeviceMemoryProperties, UnmapMemory, VoidFunction,
+    AllocateMemory, Buffer, DeviceFunctions, DeviceMemory, FreeMemory, Image, MapMemory, MappedMemoryRange,
+    MemoryAllocateFlagsInfo, MemoryAllocateInfo, MemoryDedicatedAllocateInfo, MemoryHeap, MemoryPropertyFlags,
+    MemoryRequirements, MemoryType, PhysicalDeviceMemoryProperties, SyncMappedMemoryRanges, UnmapMemory, VoidFunction,
 };
 pub use allocation::Allocation;
 pub use allocator::{AllocationCreateDesc, AllocationScheme, Allocator, AllocatorCreateDesc, TypeStatistics};
 pub use capture::{Capture, CaptureEnd};
 pub use device::{Device, DeviceLimits};
+pub use shared::SharedAllocator;
+pub use transient::{Transient, TransientCreateDesc, TransientPlace, TransientResource, TransientSet};
+pub use upload_ring::{Upload, UploadRing};

@@ -1,21 +1,20 @@
 //! What is read of an allocator: its report, and its live pieces as leaks.
 
-use super::blocks::Blocks;
-use super::machine::Machine;
+use super::machine::{LiveBlock, Machine};
 use crate::pieces::Visited;
 use crate::{AllocationReport, AllocatorReport, Kind, MemoryBlockReport, NamedPiece, PieceView, Result};
 use std::fmt;
 
 /// What is held, by memory type, slot and offset.
-pub(super) fn report(machine: &Machine, blocks: &Blocks) -> Result<AllocatorReport> {
+pub(super) fn report(machine: &Machine) -> Result<AllocatorReport> {
     let mut report = AllocatorReport {
         allocations: Vec::new(),
         blocks: Vec::new(),
         total_allocated_bytes: 0,
         total_capacity_bytes: machine.capacity(),
     };
-    for (memory_type, slot, block) in blocks.iter() {
-        let pieces = machine.block_at(memory_type, slot).named()?;
+    for block in machine.blocks() {
+        let pieces = machine.block_at(block.memory_type, block.slot).named()?;
         let start = report.allocations.len();
         report.total_allocated_bytes += pieces.iter().map(|it| it.view.end - it.view.start).sum::<u64>();
         report.allocations.try_reserve(pieces.len())?;
@@ -31,10 +30,10 @@ fn row(piece: NamedPiece) -> AllocationReport {
 }
 
 /// Hands each live piece to `tell`, as a leak, by memory type, slot and offset.
-pub(super) fn leaks(machine: &Machine, blocks: &Blocks, mut tell: impl FnMut(Leak<'_>)) -> Result<()> {
-    for (memory_type, slot, block) in blocks.iter() {
+pub(super) fn leaks(machine: &Machine, mut tell: impl FnMut(Leak<'_>)) -> Result<()> {
+    for LiveBlock { memory_type, slot, is_shared, .. } in machine.blocks() {
         for NamedPiece { view, name } in &machine.block_at(memory_type, slot).named()? {
-            tell(Leak { memory_type, slot, is_shared: block.is_shared, view, name });
+            tell(Leak { memory_type, slot, is_shared, view, name });
         }
     }
     Ok(())

@@ -1,9 +1,10 @@
-//! A Vulkan driver for tests, by four functions over a state that tests look at, and random numbers that are the same on each run.
+//! A Vulkan driver for tests, by six functions over a state that tests look at, and random numbers that are the same on each run.
 #![allow(dead_code, missing_docs)]
 
 use pilhangko::vulkan::{
-    Buffer, Device, DeviceFunctions, DeviceLimits, DeviceMemory, Image, MemoryAllocateFlagsInfo, MemoryAllocateInfo,
-    MemoryDedicatedAllocateInfo, MemoryHeap, MemoryPropertyFlags, MemoryType, PhysicalDeviceMemoryProperties,
+    Buffer, Device, DeviceFunctions, DeviceLimits, DeviceMemory, Image, MappedMemoryRange, MemoryAllocateFlagsInfo,
+    MemoryAllocateInfo, MemoryDedicatedAllocateInfo, MemoryHeap, MemoryPropertyFlags, MemoryType,
+    PhysicalDeviceMemoryProperties,
 };
 use std::alloc::{alloc_zeroed, dealloc, Layout};
 use std::collections::{BTreeMap, HashMap};
@@ -23,11 +24,12 @@ pub enum Refusal {
     Null,
 }
 
-/// A question is for memory, or for its mapping.
+/// A question is for memory, for its mapping, or to make its bytes visible.
 #[derive(Clone, Copy, Debug, PartialEq, Eq)]
 pub enum Question {
     Memory,
     Mapping,
+    Visible,
 }
 
 /// What memory was asked for.
@@ -47,6 +49,15 @@ pub struct Held {
     pub mapped: Option<*mut u8>,
 }
 
+/// What was made visible, to the device or, where it was invalidated, to the host.
+#[derive(Clone, Copy, Debug, PartialEq, Eq)]
+pub struct Visible {
+    pub invalidated: bool,
+    pub memory: u64,
+    pub offset: u64,
+    pub size: u64,
+}
+
 #[derive(Debug, Default)]
 pub struct State {
     /// How many questions came.
@@ -57,6 +68,8 @@ pub struct State {
     pub held: BTreeMap<u64, Held>,
     /// The questions that were refused since a test last emptied the list.
     pub refused: Vec<(Question, Refusal)>,
+    /// What was made visible, in order.
+    pub visible: Vec<Visible>,
     /// What the driver was misused for.
     pub faults: Vec<String>,
     last_handle: u64,
@@ -112,6 +125,17 @@ impl State {
         }
     }
 
+    fn make_visible(&mut self, it: Visible, atom: u64) -> Result<(), Refusal> {
+        self.meets(Question::Visible)?;
+        let size = self.held.get(&it.memory).filter(|held| held.mapped.is_some()).map_or(0, |held| held.asked.size);
+        let end = it.offset + it.size;
+        if it.size == 0 || end > size || it.offset % atom != 0 || (it.size % atom != 0 && end != size) {
+            self.faults.push(format!("{it:?} of {size} bytes, in atoms of {atom}"));
+        }
+        self.visible.push(it);
+        Ok(())
+    }
+
     /// The sizes of the memory that is held, summed up.
     pub fn bytes(&self) -> u64 {
         self.held.values().map(|held| held.asked.size).sum()
@@ -161,7 +185,14 @@ impl FakeDriver {
     }
 
     pub fn device(&self) -> Device {
-        let functions = DeviceFunctions { allocate_memory, free_memory, map_memory, unmap_memory };
+        let functions = DeviceFunctions {
+            allocate_memory,
+            free_memory,
+            map_memory,
+            unmap_memory,
+            flush_mapped_memory_ranges,
+            invalidate_mapped_memory_ranges,
+        };
         // SAFETY: tests keep a driver as long as its allocators.
         unsafe { Device::new(ptr::from_ref(self) as u64, functions, self.properties, self.limits) }
     }
@@ -270,6 +301,41 @@ unsafe extern "system" fn map_memory(
 unsafe extern "system" fn unmap_memory(device: *mut c_void, memory: DeviceMemory) {
     // SAFETY: the allocator hands in the device's handle.
     unsafe { driver(device) }.state().unmap(memory);
+}
+
+/// Makes one range visible.
+///
+/// # Safety
+///
+/// The device is a driver's handle, and there is one range.
+unsafe fn make_visible(device: *mut c_void, count: u32, ranges: *const MappedMemoryRange, invalidated: bool) -> i32 {
+    // SAFETY: as the caller promises.
+    let (driver, range) = unsafe { (driver(device), &*ranges) };
+    assert_eq!((count, range.s_type, range.next), (1, MappedMemoryRange::STRUCTURE_TYPE, ptr::null()));
+    let it = Visible { invalidated, memory: range.memory.0, offset: range.offset, size: range.size };
+    let answer = driver.state().make_visible(it, driver.limits.non_coherent_atom_size);
+    match answer {
+        Err(Refusal::Code(code)) => code,
+        _ => 0,
+    }
+}
+
+unsafe extern "system" fn flush_mapped_memory_ranges(
+    device: *mut c_void,
+    count: u32,
+    ranges: *const MappedMemoryRange,
+) -> i32 {
+    // SAFETY: the allocator hands in the device's handle and a range.
+    unsafe { make_visible(device, count, ranges, false) }
+}
+
+unsafe extern "system" fn invalidate_mapped_memory_ranges(
+    device: *mut c_void,
+    count: u32,
+    ranges: *const MappedMemoryRange,
+) -> i32 {
+    // SAFETY: the allocator hands in the device's handle and a range.
+    unsafe { make_visible(device, count, ranges, true) }
 }
 
 /// splitmix64.
