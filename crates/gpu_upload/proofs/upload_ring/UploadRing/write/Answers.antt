@@ -25,18 +25,11 @@ returns g c =
     let fits : o + length c.args.bytes.now ≤ length ws = omega (arith, inside, size, long) in
     subst (λ (u : UploadState). Writes V u.allocation s o c.args.bytes.now (written_at V s i.allocation ws)) c.self.view_is
     (record {
+      after = ws;
+      changes = only;
       written = range_written ws c.args.bytes.now _ o only.own fits wrote.written;
       kept = λ p bytes apart has.
           let there : IsSome (range_in p (length bytes) (Some xs)) = subst (λ b. IsSome (range_in p (length bytes) b)) lent.value (subst IsSome (sym has) refl) in
           let room = range_is_there (Some xs) p (length bytes) there in
           range_kept xs ws bytes _ _ p (length bytes) lent.value only.own room (omega (arith, room, long)) (wrote.others p (length bytes) apart) has;
-      others = only.others;
-      slots = only.slots;
-      setup = only.setup;
-      first = only.first;
-      budgets = only.budgets;
-      history = only.history;
-      refused = only.refused;
-      latest = only.latest;
-      constant = only.constant;
     })
