@@ -14,3 +14,5 @@ pub mod Apart
 pub mod Measure
 pub mod Listing
 pub mod Reusing
+mod Joining
+mod Beside

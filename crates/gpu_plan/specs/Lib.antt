@@ -9,3 +9,5 @@ pub mod PlanErrors
 pub mod Reuse
 pub mod Span
 pub mod ByKind
+pub mod Sets
+pub mod Memory

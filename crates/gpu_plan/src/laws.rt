@@ -1,7 +1,10 @@
 //! What is one value: an order, its plan, and the best plan. What holds wherever no two resources meet.
 
-ghost use Rattle.std.specs.Prelude.{◌≡◌, ◌≢◌, ℕ, ◌<◌, ◌≤◌, ◌⊎◌, List, length, slice_index};
-ghost use Rattle.gpu_plan.specs.Plan.{ShareByte, resource_at};
+ghost use Rattle.std.specs.Prelude.{◌≡◌, ◌≢◌, ℕ, ◌+◌, ◌%◌, ◌<◌, ◌≤◌, ◌⊎◌, List, All, length, slice_index};
+ghost use Rattle.gpu_plan.specs.Plan.{IsValid, ShareByte, SharePage, resource_at};
+ghost use Rattle.gpu_plan.specs.Memory.{AreMixed, IsMemoryFor, LiesBeside};
+ghost use Rattle.gpu_plan.specs.declared.memory.Memory.{Memory};
+ghost use Rattle.gpu_plan.specs.declared.resource.Kind.{Kind};
 ghost use Rattle.gpu_plan.specs.Passes.{IsPeak};
 ghost use Rattle.gpu_plan.specs.Order.{IsOrder};
 ghost use Rattle.gpu_plan.specs.OrderPlan.{IsPlanBy, IsHeap};
@@ -47,4 +50,16 @@ pub fn shared_bytes_are_reused(page: u64)
         → ShareByte (slice_index offsets i) (resource_at resources i).size
         (slice_index offsets j) (resource_at resources j).size
         → Reuses resources offsets i j ⊎ Reuses resources offsets j i }
+{}
+
+/// Where memory for a heap lies beside another piece as its allocator promises, and begins with a page where it is of whole ones: that piece
+/// shares no page with a resource of the heap that is of another kind.
+pub fn no_page_is_shared_beside_a_heap(page: u64)
+    requires { 0 < page }
+    ensures { (resources : List Resource) (offsets : List ℕ) (heap : ℕ) (m : Memory) (place i : ℕ) (kind : Kind) (p n : ℕ)
+        → All IsValid resources → IsHeap resources offsets heap
+        → IsMemoryFor page resources heap m → (AreMixed resources → place % page ≡ 0)
+        → LiesBeside page m place kind p n → i < length resources
+        → (resource_at resources i).kind ≢ kind
+        → SharePage page (place + slice_index offsets i) (resource_at resources i).size p n → ⊥ }
 {}

@@ -4,6 +4,7 @@ ghost use Rattle.std.specs.Prelude.{◌≡◌};
 
 use gpu_plan::{Kind, Resource};
 
+mod memory;
 mod refused;
 mod rows;
 

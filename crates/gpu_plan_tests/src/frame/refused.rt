@@ -2,7 +2,7 @@
 //! text of its own (`tools/check_refused`).
 
 use crate::frame::frame;
-use gpu_plan::{Order, PlanError, are_valid, plan, reuses};
+use gpu_plan::{MemoryNeeds, Order, PlanError, are_valid, plan, reuses, sets_of};
 use std::test::Fail;
 
 /// What a run ends with in which one request was refused.
@@ -40,5 +40,25 @@ fn a_refused_plan_can_be_asked_for_again(rt: HostRuntime) -> Result<(), Fail> {
         (true, false) => Ok(()),
         (true, true) => Err(Fail::new(TOLD)),
         (false, _) => Err(Fail::new("the plan is another one")),
+    }
+}
+
+#[test]
+fn refused_sets_can_be_asked_for_again(rt: HostRuntime) -> Result<(), Fail> {
+    let resources = [1, 2, 3].map(|memory_type_bits| MemoryNeeds {
+        memory_type_bits,
+        dedicated: false,
+    });
+    let (sets, refused) = match sets_of(rt.alloc(), &resources) {
+        Ok(sets) => (sets, false),
+        Err(_) => match sets_of(rt.alloc(), &resources) {
+            Ok(sets) => (sets, true),
+            Err(_) => return Err(Fail::new("more than one call was refused")),
+        },
+    };
+    match (sets.as_slice() == [0, 1, 0].as_slice(), refused) {
+        (true, false) => Ok(()),
+        (true, true) => Err(Fail::new(TOLD)),
+        (false, _) => Err(Fail::new("the sets are others")),
     }
 }
