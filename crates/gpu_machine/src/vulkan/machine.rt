@@ -16,6 +16,7 @@ ghost use Rattle.gpu_pool.specs.Live.{IsLive, StayLive};
 ghost use Rattle.gpu_pool.specs.Told.{Reports};
 ghost use Rattle.gpu_vulkan.specs.Allocate.{next_type};
 ghost use Rattle.gpu_vulkan.specs.BlockAnswer.{memory_refusal, map_refusal};
+ghost use Rattle.gpu_vulkan.specs.Choice.{best_type};
 ghost use Rattle.gpu_vulkan.specs.Setup.{properties_told};
 ghost use Rattle.gpu_vulkan.specs.Types.{is_mapped, kinds_of_device};
 ghost use Rattle.gpu_machine.specs.VulkanState.{IsOver, told_fault};
@@ -30,7 +31,7 @@ use crate::vulkan::told::fault_of;
 use gpu_core::{AllLeaks, MemoryType, MemoryTypes, Piece};
 use gpu_device::vulkan::{MemoryHeap, MemoryPropertyFlags, MemoryTypeInfo};
 use gpu_pool::{Begun, Requests, answer_awaited, no_answer_awaited};
-use gpu_values::{AllocationError, AllocatorReport, Result};
+use gpu_values::{AllocationError, AllocatorReport, MemoryLocation, Result};
 use gpu_vulkan::{
     AllocationCreateDesc, Settings, Setup, best_type, next_type, refusal_of_memory, request_of,
     told_parts,
@@ -158,6 +159,14 @@ impl<H: Copy + Eq> Machine<H> {
         ensures { IsTrue result ↔ IsSome self.now.requests.awaited }
     {
         self.requests.awaits_answer()
+    }
+
+    /// The memory type at which a request with these bits begins: the first with all that the location prefers, else the first with all
+    /// that it must have; `None` where there is neither.
+    pub fn best_type(&self, memory_type_bits: u32, location: MemoryLocation) -> Option<usize>
+        ensures { result ≡ best_type self.now.setup.properties.types memory_type_bits location }
+    {
+        best_type(self.setup.memory_types(), memory_type_bits, location)
     }
 
     /// Begins a request. The errors are those of an allocator's `allocate`, in the same order, but for the driver's own refusals:
@@ -307,14 +316,6 @@ impl<H: Copy + Eq> Machine<H> {
         }
     }
 
-    /// The memory type at `index`, lent to be looked at, if it is there.
-    pub fn memory_type(&self, index: usize) -> Option<&MemoryType<H>>
-        ensures { slots_at self.now.requests.slots index
-            ≡ unwrap_or (option_map (λ m. m.now.slots) result) [] }
-    {
-        self.memory_types().memory_type(index)
-    }
-
     /// The memory types, lent to be looked at: their blocks with pieces and gaps, and what is counted of them.
     pub fn memory_types(&self) -> &MemoryTypes<H>
         ensures slots { slots_of result.now ≡ self.now.requests.slots }
@@ -344,6 +345,14 @@ impl<H: Copy + Eq> Machine<H> {
         ensures empty { EachKeepsOneEmptyAtMost self.now.requests.slots }
     {
         self.requests.blocks_are_sound();
+    }
+
+    // The memory type at `index`, lent to be looked at, if it is there.
+    fn memory_type(&self, index: usize) -> Option<&MemoryType<H>>
+        ensures { slots_at self.now.requests.slots index
+            ≡ unwrap_or (option_map (λ m. m.now.slots) result) [] }
+    {
+        self.memory_types().memory_type(index)
     }
 
     // The block that was awaited isn't there, for this cause.
