@@ -3,8 +3,8 @@
  * It says where pieces lie; it holds no memory of a device and calls no driver. Link libgpu_c.a, and pilhangko_heap.c over the program's
  * malloc, realloc and free (docs/C.md). No call blocks, calls back or starts a thread.
  *
- * Handles. A pilhangko_virtual_block, a pilhangko_ring, a pilhangko_memory_type or a pilhangko_allocator is one pointer that the caller
- * keeps and the library owns. The caller upholds:
+ * Handles. A pilhangko_virtual_block, a pilhangko_ring, a pilhangko_memory_type, a pilhangko_allocator or a pilhangko_heaps is one pointer
+ * that the caller keeps and the library owns. The caller upholds:
  *   - It begins zeroed, as in `pilhangko_virtual_block block = {0};`, and is empty then. create fills it, destroy leaves it empty. Each
  *     other call on an empty handle returns PILHANGKO_NO_HANDLE, so a call after destroy and a second destroy are refused.
  *   - It is never copied, and its field is never written or read. (To move it, copy it and never use the old one again.)
@@ -14,8 +14,8 @@
  *     threads, also for a block that another one allocated, as a C library's are.
  *   - It is not used in a signal handler, nor in the forked child of a process with threads.
  * A handle that is never destroyed leaks its host memory. A piece doesn't say which handle it is of: one of another virtual block, memory
- * type or allocator, or of one that was destroyed, is taken for the live piece here that has the same numbers, where there is one. (The
- * allocations of a pilhangko_vulkan do say it.)
+ * type, allocator or pilhangko_heaps, or of one that was destroyed, is taken for the live piece here that has the same numbers, where there
+ * is one. (The allocations of a pilhangko_vulkan do say it.)
  *
  * const. A call on a `const` handle changes nothing that lies behind it. It still needs the handle to itself, since it takes the value out
  * and puts it back: two such calls may not overlap either, and a handle is never itself defined const.
@@ -73,30 +73,36 @@ extern "C" {
 /* What a call returns, of this header and of the Vulkan binding. pilhangko_status_name and pilhangko_status_text have each one's name and
  * one line of text.
  *
- * 1 to 11 are the allocator's errors by the numbers that they have everywhere in this project; 7 to 9, of resources of DirectX 12, are
- * missing. 12 and 13 are two causes that have the number 6 elsewhere, 14 and 15 two that have 5; 16 to 99 are kept for further errors. From
- * 100 on the handle is in another state than the call needs, from 200 on the header's own test of what it was passed has failed, from 300
- * on it is the Vulkan binding's (pilhangko_vulkan.h). */
+ * 1 to 11 are the allocators' errors by the numbers that they have everywhere in this project. 12 and 13 are two causes that have the
+ * number 6 elsewhere, 14 and 15 two that have 5; 16 to 99 are kept for further errors. From 100 on the handle is in another state than the
+ * call needs, from 200 on the header's own test of what it was passed has failed, from 300 on it is the Vulkan binding's
+ * (pilhangko_vulkan.h). */
 typedef uint32_t pilhangko_status;
 enum {
     /* The call did what it says. */
     PILHANGKO_OK = 0,
     /* No gap, or no part of a ring, has a place for the request; or the sum of a memory type's block sizes would pass 2^64 - 1. Of an
-     * allocator: the request is larger than its heap, the driver has no memory left, or the sum of all blocks' sizes would pass 2^64 - 1. Of a
-     * plan: in each order the heap's size would pass 2^64 - 1. */
+     * allocator of all memory types: the request is larger than its heap, the driver has no memory left, or the sum of all blocks' sizes, or
+     * of a memory type's committed resources, would pass 2^64 - 1. Of a plan: in each order the heap's size would pass 2^64 - 1. */
     PILHANGKO_OUT_OF_MEMORY = 1,
-    /* The driver granted memory, but didn't map it. Of an allocator alone, as 3, 5, 12 and 13. */
+    /* The driver granted memory, but didn't map it. */
     PILHANGKO_FAILED_TO_MAP = 2,
     /* No memory type that the request allows has what its location needs. */
     PILHANGKO_NO_MEMORY_TYPE = 3,
-    /* A size of 0, an alignment or a page size that is no power of two, an unknown kind, location or scheme, or a name that isn't UTF-8. Of a
-     * ring: a size of 0 or of 2^63 and more, or an alignment of 0. Of a plan also a last pass before the first, and an index that no resource
-     * has. */
+    /* A size of 0, an alignment or a page size that is no power of two, an unknown kind, location, scheme, category or version, or a name
+     * that isn't UTF-8. Of a ring: a size of 0 or of 2^63 and more, or an alignment of 0. Of a plan also a last pass before the first, and an
+     * index that no resource has. */
     PILHANGKO_INVALID = 4,
-    /* The page size of a device is no power of two. */
+    /* The page size of a device is no power of two, or its resource heap tier is 0. */
     PILHANGKO_INVALID_DEVICE = 5,
-    /* No live piece is the one that is named; or no frame in flight. */
+    /* No live piece, or no record of a committed resource, is the one that is named; or no frame in flight. */
     PILHANGKO_NOT_LIVE = 6,
+    /* A resource begins in a barrier layout, and the device is no ID3D12Device10. Of pilhangko_heaps_choose_call alone, as 8 and 9. */
+    PILHANGKO_LAYOUT_NEEDS_DEVICE10 = 7,
+    /* A resource has castable formats, and begins in a state. */
+    PILHANGKO_FORMATS_NEED_LAYOUT = 8,
+    /* A resource has castable formats, and the device is no ID3D12Device12. */
+    PILHANGKO_FORMATS_NEED_DEVICE12 = 9,
     /* malloc or realloc refused. */
     PILHANGKO_HOST_OUT_OF_MEMORY = 10,
     /* The block that is needed would carry the sum of the memory type's block sizes past its budget. */
@@ -117,7 +123,7 @@ enum {
     PILHANGKO_AWAITS_BLOCK = 102,
     /* No block is awaited, so there is none to install or to abandon. */
     PILHANGKO_AWAITS_NO_BLOCK = 103,
-    /* A question is open: call granted, refused or mapping_refused first. */
+    /* A question is open: call granted, refused or mapping_refused first; of a committed resource made or not_made. */
     PILHANGKO_AWAITS_ANSWER = 104,
     /* No question is open, so there is none to answer. */
     PILHANGKO_AWAITS_NO_ANSWER = 105,
@@ -430,6 +436,96 @@ typedef struct pilhangko_budget {
     uint64_t bytes;
 } pilhangko_budget;
 
+/* ---- Heaps: all memory types of a DirectX 12 device. It chooses the memory type, and asks for heaps and committed resources. ---- */
+
+typedef struct pilhangko_heaps {
+    void *opaque; /* the library's own */
+} pilhangko_heaps;
+
+/* Sizes of blocks are as with a memory type. */
+typedef struct pilhangko_heaps_settings {
+    uint32_t heap_tier;         /* the device's D3D12_RESOURCE_HEAP_TIER: 1, or 2 and each later one */
+    uint64_t device_block_size; /* 256 MB suit where memory is plenty */
+    uint64_t largest_device_block_size;
+    uint64_t host_block_size; /* 64 MB suit where memory is plenty */
+    uint64_t largest_host_block_size;
+} pilhangko_heaps_settings;
+
+/* Of which category a resource is. At resource heap tier 1 a heap holds one category alone; at later tiers it doesn't matter. */
+typedef PILHANGKO_ENUM(pilhangko_category) {
+    PILHANGKO_CATEGORY_BUFFER = 1,
+    /* A texture that may be a render target or a depth stencil. */
+    PILHANGKO_CATEGORY_RTV_DSV_TEXTURE = 2,
+    /* Any other texture. */
+    PILHANGKO_CATEGORY_OTHER_TEXTURE = 3
+} pilhangko_category;
+
+typedef struct pilhangko_heaps_request {
+    uint64_t size;      /* not 0: what GetResourceAllocationInfo tells */
+    uint64_t alignment; /* a power of two: it too */
+    pilhangko_location location;
+    pilhangko_category category;
+} pilhangko_heaps_request;
+
+/* A piece: its memory type, and where it lies; piece.block is the driver's heap. Place a resource there, at piece.offset. */
+typedef struct pilhangko_heaps_piece {
+    size_t memory_type;
+    pilhangko_memory_piece piece;
+} pilhangko_heaps_piece;
+
+/* What the driver is to be asked for: a heap, by the numbers of D3D12_HEAP_DESC. Both node masks are 0. */
+typedef struct pilhangko_heaps_question {
+    size_t memory_type;
+    uint64_t size;
+    uint64_t alignment;         /* 4 MB */
+    uint32_t heap_type;         /* D3D12_HEAP_TYPE: DEFAULT or CUSTOM */
+    uint32_t cpu_page_property; /* D3D12_CPU_PAGE_PROPERTY */
+    uint32_t memory_pool;       /* D3D12_MEMORY_POOL */
+    uint32_t flags;             /* D3D12_HEAP_FLAGS: 0, or at tier 1 which category alone it may hold */
+    bool dedicated;             /* whether it is one piece's own, and not shared */
+} pilhangko_heaps_question;
+
+/* kind says which member counts; the others are all zeros. Only refused reports PILHANGKO_PROGRESS_REFUSED. */
+typedef struct pilhangko_heaps_progress {
+    pilhangko_progress_kind kind;
+    pilhangko_status status; /* why the request is refused, else PILHANGKO_OK */
+    pilhangko_heaps_piece piece;
+    pilhangko_heaps_question question;
+} pilhangko_heaps_progress;
+
+/* A committed resource, as it is recorded: its memory type, the driver's handle of it, and its size as the driver told it. */
+typedef struct pilhangko_heaps_committed {
+    size_t memory_type;
+    uint64_t resource;
+    uint64_t size;
+} pilhangko_heaps_committed;
+
+/* What is counted of a memory type's committed resources. */
+typedef struct pilhangko_heaps_committed_statistics {
+    size_t count;
+    uint64_t bytes; /* the sum of their sizes */
+} pilhangko_heaps_committed_statistics;
+
+/* The newest interface that a device has. */
+typedef PILHANGKO_ENUM(pilhangko_device_version) {
+    /* ID3D12Device: resources begin in a state. */
+    PILHANGKO_DEVICE = 0,
+    /* ID3D12Device10: they may begin in a barrier layout. */
+    PILHANGKO_DEVICE10 = 10,
+    /* ID3D12Device12: and then have castable formats. */
+    PILHANGKO_DEVICE12 = 12
+} pilhangko_device_version;
+
+/* By which call a resource is made. */
+typedef PILHANGKO_ENUM(pilhangko_create_call) {
+    /* In a state: CreateCommittedResource, CreatePlacedResource. */
+    PILHANGKO_CALL_IN_STATE = 1,
+    /* In a layout: CreateCommittedResource3, CreatePlacedResource2, without formats. */
+    PILHANGKO_CALL_IN_LAYOUT = 2,
+    /* The same with the list of castable formats, be it empty. */
+    PILHANGKO_CALL_IN_LAYOUT_WITH_FORMATS = 3
+} pilhangko_create_call;
+
 /* ---- Plans: transient resources of a frame that share the memory of one heap. No handle: each call is a function of what it is given. ---- */
 
 /* A resource that passes of a frame use. It is alive from its first pass to its last one, both included; passes are numbered in the order in
@@ -462,6 +558,19 @@ typedef struct pilhangko_heap_plan {
     uint64_t peak;      /* the most bytes that are alive in one pass: no heap is smaller */
     pilhangko_plan_order order;
 } pilhangko_heap_plan;
+
+/* What memory a resource may lie in. */
+typedef struct pilhangko_memory_needs {
+    uint32_t memory_type_bits; /* bit N is set where memory type N serves */
+    bool dedicated;            /* whether nothing else may lie in it */
+} pilhangko_memory_needs;
+
+/* Memory to be allocated for a heap. */
+typedef struct pilhangko_heap_memory {
+    uint64_t size;
+    uint64_t alignment;
+    pilhangko_kind kind;
+} pilhangko_heap_memory;
 
 /* ---- The archive's symbols, for callers in other languages. No pointer may be NULL, also not of a name with length 0. ---- */
 
@@ -557,6 +666,8 @@ PILHANGKO_NODISCARD PILHANGKO_API pilhangko_status PILHANGKO_CALL pilhangko_raw_
     const pilhangko_allocator *allocator, size_t memory_type, pilhangko_budget *budget);
 PILHANGKO_NODISCARD PILHANGKO_API pilhangko_status PILHANGKO_CALL pilhangko_raw_allocator_capacity(
     const pilhangko_allocator *allocator, uint64_t *bytes);
+PILHANGKO_NODISCARD PILHANGKO_API pilhangko_status PILHANGKO_CALL pilhangko_raw_allocator_best_type(
+    const pilhangko_allocator *allocator, uint32_t memory_type_bits, pilhangko_location location, size_t *memory_type);
 PILHANGKO_NODISCARD PILHANGKO_API pilhangko_status PILHANGKO_CALL pilhangko_raw_allocator_type_capacity(
     const pilhangko_allocator *allocator, size_t memory_type, uint64_t *bytes);
 PILHANGKO_NODISCARD PILHANGKO_API pilhangko_status PILHANGKO_CALL pilhangko_raw_allocator_type_statistics(
@@ -575,10 +686,65 @@ PILHANGKO_NODISCARD PILHANGKO_API pilhangko_status PILHANGKO_CALL pilhangko_raw_
     const pilhangko_allocator *allocator, size_t index, char *text, size_t room, size_t *length);
 PILHANGKO_API pilhangko_status PILHANGKO_CALL pilhangko_raw_allocator_destroy(pilhangko_allocator *allocator);
 
+PILHANGKO_NODISCARD PILHANGKO_API pilhangko_status PILHANGKO_CALL pilhangko_raw_heaps_create(
+    pilhangko_heaps *heaps, const pilhangko_heaps_settings *settings);
+PILHANGKO_NODISCARD PILHANGKO_API pilhangko_status PILHANGKO_CALL pilhangko_raw_heaps_begin(pilhangko_heaps *heaps,
+    const pilhangko_heaps_request *request, const char *name, size_t name_length, pilhangko_heaps_progress *progress);
+PILHANGKO_NODISCARD PILHANGKO_API pilhangko_status PILHANGKO_CALL pilhangko_raw_heaps_granted(
+    pilhangko_heaps *heaps, uint64_t heap, pilhangko_heaps_piece *piece);
+PILHANGKO_NODISCARD PILHANGKO_API pilhangko_status PILHANGKO_CALL pilhangko_raw_heaps_refused(
+    pilhangko_heaps *heaps, int32_t code, pilhangko_heaps_progress *progress);
+PILHANGKO_NODISCARD PILHANGKO_API pilhangko_status PILHANGKO_CALL pilhangko_raw_heaps_free(
+    pilhangko_heaps *heaps, const pilhangko_heaps_piece *piece, pilhangko_memory_block *back);
+PILHANGKO_NODISCARD PILHANGKO_API pilhangko_status PILHANGKO_CALL pilhangko_raw_heaps_rename(
+    pilhangko_heaps *heaps, const pilhangko_heaps_piece *piece, const char *name, size_t name_length);
+PILHANGKO_NODISCARD PILHANGKO_API pilhangko_status PILHANGKO_CALL pilhangko_raw_heaps_is_live(
+    const pilhangko_heaps *heaps, const pilhangko_heaps_piece *piece, bool *is_live);
+PILHANGKO_NODISCARD PILHANGKO_API pilhangko_status PILHANGKO_CALL pilhangko_raw_heaps_begin_committed(
+    pilhangko_heaps *heaps, uint64_t size, pilhangko_location location, pilhangko_category category);
+PILHANGKO_NODISCARD PILHANGKO_API pilhangko_status PILHANGKO_CALL pilhangko_raw_heaps_made(
+    pilhangko_heaps *heaps, uint64_t resource, pilhangko_heaps_committed *committed);
+PILHANGKO_NODISCARD PILHANGKO_API pilhangko_status PILHANGKO_CALL pilhangko_raw_heaps_not_made(pilhangko_heaps *heaps);
+PILHANGKO_NODISCARD PILHANGKO_API pilhangko_status PILHANGKO_CALL pilhangko_raw_heaps_forget_committed(
+    pilhangko_heaps *heaps, const pilhangko_heaps_committed *committed);
+PILHANGKO_NODISCARD PILHANGKO_API pilhangko_status PILHANGKO_CALL pilhangko_raw_heaps_committed_of(
+    const pilhangko_heaps *heaps, size_t memory_type, pilhangko_heaps_committed_statistics *statistics);
+PILHANGKO_NODISCARD PILHANGKO_API pilhangko_status PILHANGKO_CALL pilhangko_raw_heaps_choose_call(
+    pilhangko_device_version version, bool in_layout, bool has_formats, pilhangko_create_call *call);
+PILHANGKO_NODISCARD PILHANGKO_API pilhangko_status PILHANGKO_CALL pilhangko_raw_heaps_type_count(
+    const pilhangko_heaps *heaps, size_t *count);
+PILHANGKO_NODISCARD PILHANGKO_API pilhangko_status PILHANGKO_CALL pilhangko_raw_heaps_set_budget(
+    pilhangko_heaps *heaps, size_t memory_type, bool has_budget, uint64_t bytes);
+PILHANGKO_NODISCARD PILHANGKO_API pilhangko_status PILHANGKO_CALL pilhangko_raw_heaps_budget(
+    const pilhangko_heaps *heaps, size_t memory_type, pilhangko_budget *budget);
+PILHANGKO_NODISCARD PILHANGKO_API pilhangko_status PILHANGKO_CALL pilhangko_raw_heaps_capacity(
+    const pilhangko_heaps *heaps, uint64_t *bytes);
+PILHANGKO_NODISCARD PILHANGKO_API pilhangko_status PILHANGKO_CALL pilhangko_raw_heaps_type_capacity(
+    const pilhangko_heaps *heaps, size_t memory_type, uint64_t *bytes);
+PILHANGKO_NODISCARD PILHANGKO_API pilhangko_status PILHANGKO_CALL pilhangko_raw_heaps_type_statistics(
+    const pilhangko_heaps *heaps, size_t memory_type, pilhangko_type_statistics *statistics);
+PILHANGKO_NODISCARD PILHANGKO_API pilhangko_status PILHANGKO_CALL pilhangko_raw_heaps_block(
+    const pilhangko_heaps *heaps, size_t memory_type, size_t slot, pilhangko_memory_block *block);
+PILHANGKO_NODISCARD PILHANGKO_API pilhangko_status PILHANGKO_CALL pilhangko_raw_heaps_block_statistics(
+    const pilhangko_heaps *heaps, size_t memory_type, size_t slot, pilhangko_memory_block_statistics *statistics);
+PILHANGKO_NODISCARD PILHANGKO_API pilhangko_status PILHANGKO_CALL pilhangko_raw_heaps_pieces(const pilhangko_heaps *heaps,
+    size_t memory_type, size_t slot, uint64_t from, pilhangko_piece_view *pieces, size_t room, size_t *count);
+PILHANGKO_NODISCARD PILHANGKO_API pilhangko_status PILHANGKO_CALL pilhangko_raw_heaps_piece_names(const pilhangko_heaps *heaps,
+    size_t memory_type, size_t slot, uint64_t from, size_t *lengths, size_t room, char *names, size_t names_room, size_t *count);
+PILHANGKO_NODISCARD PILHANGKO_API pilhangko_status PILHANGKO_CALL pilhangko_raw_heaps_report(
+    const pilhangko_heaps *heaps, char *text, size_t room, size_t *length);
+PILHANGKO_NODISCARD PILHANGKO_API pilhangko_status PILHANGKO_CALL pilhangko_raw_heaps_leak(
+    const pilhangko_heaps *heaps, size_t index, char *text, size_t room, size_t *length);
+PILHANGKO_API pilhangko_status PILHANGKO_CALL pilhangko_raw_heaps_destroy(pilhangko_heaps *heaps);
+
 PILHANGKO_NODISCARD PILHANGKO_API pilhangko_status PILHANGKO_CALL pilhangko_raw_plan(const pilhangko_plan_resource *resources, size_t count,
     uint64_t page_size, uint64_t *offsets, size_t room, pilhangko_heap_plan *plan);
 PILHANGKO_NODISCARD PILHANGKO_API pilhangko_status PILHANGKO_CALL pilhangko_raw_plan_reuses(const pilhangko_plan_resource *resources,
     size_t count, const uint64_t *offsets, size_t offset_count, size_t index, size_t *reused, size_t room, size_t *reused_count);
+PILHANGKO_NODISCARD PILHANGKO_API pilhangko_status PILHANGKO_CALL pilhangko_raw_plan_sets(
+    const pilhangko_memory_needs *needs, size_t count, size_t *sets, size_t room);
+PILHANGKO_NODISCARD PILHANGKO_API pilhangko_status PILHANGKO_CALL pilhangko_raw_plan_memory(
+    const pilhangko_plan_resource *resources, size_t count, uint64_t heap_size, uint64_t page_size, pilhangko_heap_memory *memory);
 
 /* ---- The calls ---- */
 
@@ -592,6 +758,9 @@ static inline const char *pilhangko_status_name(pilhangko_status status) {
     case PILHANGKO_INVALID: return "PILHANGKO_INVALID";
     case PILHANGKO_INVALID_DEVICE: return "PILHANGKO_INVALID_DEVICE";
     case PILHANGKO_NOT_LIVE: return "PILHANGKO_NOT_LIVE";
+    case PILHANGKO_LAYOUT_NEEDS_DEVICE10: return "PILHANGKO_LAYOUT_NEEDS_DEVICE10";
+    case PILHANGKO_FORMATS_NEED_LAYOUT: return "PILHANGKO_FORMATS_NEED_LAYOUT";
+    case PILHANGKO_FORMATS_NEED_DEVICE12: return "PILHANGKO_FORMATS_NEED_DEVICE12";
     case PILHANGKO_HOST_OUT_OF_MEMORY: return "PILHANGKO_HOST_OUT_OF_MEMORY";
     case PILHANGKO_BUDGET_EXCEEDED: return "PILHANGKO_BUDGET_EXCEEDED";
     case PILHANGKO_DRIVER_REFUSED: return "PILHANGKO_DRIVER_REFUSED";
@@ -627,8 +796,11 @@ static inline const char *pilhangko_status_text(pilhangko_status status) {
     case PILHANGKO_FAILED_TO_MAP: return "the driver granted memory, but didn't map it";
     case PILHANGKO_NO_MEMORY_TYPE: return "no memory type that the request allows has what its location needs";
     case PILHANGKO_INVALID: return "invalid request: a size, an alignment, a page size, a kind or a name";
-    case PILHANGKO_INVALID_DEVICE: return "invalid device: the page size is no power of two";
-    case PILHANGKO_NOT_LIVE: return "no live piece, or no frame in flight, is the one that is named";
+    case PILHANGKO_INVALID_DEVICE: return "invalid device: the page size is no power of two, or the resource heap tier is 0";
+    case PILHANGKO_NOT_LIVE: return "no live piece, record or frame in flight is the one that is named";
+    case PILHANGKO_LAYOUT_NEEDS_DEVICE10: return "a resource that begins in a barrier layout needs an ID3D12Device10";
+    case PILHANGKO_FORMATS_NEED_LAYOUT: return "a resource with castable formats has to begin in a barrier layout";
+    case PILHANGKO_FORMATS_NEED_DEVICE12: return "a resource with castable formats needs an ID3D12Device12";
     case PILHANGKO_HOST_OUT_OF_MEMORY: return "out of host memory: malloc or realloc refused";
     case PILHANGKO_BUDGET_EXCEEDED: return "the block that is needed would pass the budget";
     case PILHANGKO_DRIVER_REFUSED: return "the driver refused memory with a code that has no status of its own";
@@ -1080,6 +1252,15 @@ PILHANGKO_NODISCARD static inline pilhangko_status pilhangko_allocator_capacity(
     return pilhangko_raw_allocator_capacity(allocator, bytes);
 }
 
+/* The memory type at which a request with these bits begins: the first with all flags that the location prefers, else the first with all that
+ * it must have.
+ * NO_HANDLE. INVALID: the location. NO_MEMORY_TYPE. */
+PILHANGKO_NODISCARD static inline pilhangko_status pilhangko_allocator_best_type(
+    const pilhangko_allocator *allocator, uint32_t memory_type_bits, pilhangko_location location, size_t *memory_type) {
+    if (!allocator || !memory_type) return PILHANGKO_NULL_POINTER;
+    return pilhangko_raw_allocator_best_type(allocator, memory_type_bits, location, memory_type);
+}
+
 /* The sum of the sizes of a memory type's blocks.
  * NO_HANDLE. NO_SUCH_TYPE. */
 PILHANGKO_NODISCARD static inline pilhangko_status pilhangko_allocator_type_capacity(
@@ -1184,6 +1365,251 @@ static inline pilhangko_status pilhangko_allocator_destroy(pilhangko_allocator *
     return pilhangko_raw_allocator_destroy(allocator);
 }
 
+/* Makes an allocator of a device of that resource heap tier, without blocks and committed resources, in an empty handle.
+ * IN_USE: the handle isn't empty. INVALID_DEVICE: the tier is 0. HOST_OUT_OF_MEMORY. */
+PILHANGKO_NODISCARD static inline pilhangko_status pilhangko_heaps_create(
+    pilhangko_heaps *heaps, const pilhangko_heaps_settings *settings) {
+    if (!heaps || !settings) return PILHANGKO_NULL_POINTER;
+    return pilhangko_raw_heaps_create(heaps, settings);
+}
+
+/* Begins a request: it leads to a piece, or to a question for a heap, which stays open until the answer is told.
+ * NO_HANDLE. AWAITS_ANSWER: a question for a heap is open. INVALID: the request or the name. HOST_OUT_OF_MEMORY. And where a heap is
+ * needed: OUT_OF_MEMORY: the sum of the blocks' sizes would pass 2^64 - 1. BUDGET_EXCEEDED. */
+PILHANGKO_NODISCARD static inline pilhangko_status pilhangko_heaps_begin(
+    pilhangko_heaps *heaps, const pilhangko_heaps_request *request, const char *name, pilhangko_heaps_progress *progress) {
+    if (!heaps || !request || !progress) return PILHANGKO_NULL_POINTER;
+    return pilhangko_raw_heaps_begin(heaps, request, pilhangko_name_bytes(name), pilhangko_name_length(name), progress);
+}
+
+/* The driver made the heap that was asked for: says where the piece is; it begins at the heap's start. It needs no host memory, so that a
+ * heap which the driver made is never lost. Heaps of live blocks should differ.
+ * NO_HANDLE. AWAITS_NO_ANSWER: no question for a heap is open. */
+PILHANGKO_NODISCARD static inline pilhangko_status pilhangko_heaps_granted(
+    pilhangko_heaps *heaps, uint64_t heap, pilhangko_heaps_piece *piece) {
+    if (!heaps || !piece) return PILHANGKO_NULL_POINTER;
+    return pilhangko_raw_heaps_granted(heaps, heap, piece);
+}
+
+/* The driver made no heap, with this code (HRESULT), or with S_OK and null. progress is the request's refusal: OUT_OF_MEMORY for
+ * E_OUTOFMEMORY, DRIVER_REFUSED for another code. There is no second attempt.
+ * NO_HANDLE. AWAITS_NO_ANSWER. */
+PILHANGKO_NODISCARD static inline pilhangko_status pilhangko_heaps_refused(
+    pilhangko_heaps *heaps, int32_t code, pilhangko_heaps_progress *progress) {
+    if (!heaps || !progress) return PILHANGKO_NULL_POINTER;
+    return pilhangko_raw_heaps_refused(heaps, code, progress);
+}
+
+/* Frees a piece. Where back->exists, the heap back->block goes back to the driver. It needs no host memory.
+ * NO_HANDLE. AWAITS_ANSWER. NOT_LIVE. */
+PILHANGKO_NODISCARD static inline pilhangko_status pilhangko_heaps_free(
+    pilhangko_heaps *heaps, const pilhangko_heaps_piece *piece, pilhangko_memory_block *back) {
+    if (!heaps || !piece || !back) return PILHANGKO_NULL_POINTER;
+    return pilhangko_raw_heaps_free(heaps, piece, back);
+}
+
+/* Renames a live piece.
+ * NO_HANDLE. AWAITS_ANSWER. INVALID: the name. NOT_LIVE. HOST_OUT_OF_MEMORY. */
+PILHANGKO_NODISCARD static inline pilhangko_status pilhangko_heaps_rename(
+    pilhangko_heaps *heaps, const pilhangko_heaps_piece *piece, const char *name) {
+    if (!heaps || !piece) return PILHANGKO_NULL_POINTER;
+    return pilhangko_raw_heaps_rename(heaps, piece, pilhangko_name_bytes(name), pilhangko_name_length(name));
+}
+
+/* Whether a piece is live.
+ * NO_HANDLE. */
+PILHANGKO_NODISCARD static inline pilhangko_status pilhangko_heaps_is_live(
+    const pilhangko_heaps *heaps, const pilhangko_heaps_piece *piece, bool *is_live) {
+    if (!heaps || !piece || !is_live) return PILHANGKO_NULL_POINTER;
+    return pilhangko_raw_heaps_is_live(heaps, piece, is_live);
+}
+
+/* A committed resource of this size, as the driver tells it, is wanted: all host memory for its record is at hand, and the question is
+ * open. Ask the driver, and then call made or not_made. A question for a heap may be open beside it.
+ * NO_HANDLE. AWAITS_ANSWER: a committed resource is asked for. INVALID: location or category. OUT_OF_MEMORY: the sum of its memory type's
+ * sizes would pass 2^64 - 1. HOST_OUT_OF_MEMORY. */
+PILHANGKO_NODISCARD static inline pilhangko_status pilhangko_heaps_begin_committed(
+    pilhangko_heaps *heaps, uint64_t size, pilhangko_location location, pilhangko_category category) {
+    if (!heaps) return PILHANGKO_NULL_POINTER;
+    return pilhangko_raw_heaps_begin_committed(heaps, size, location, category);
+}
+
+/* The driver made the committed resource that was asked for: says what is recorded of it. It needs no host memory.
+ * NO_HANDLE. AWAITS_NO_ANSWER: no committed resource is asked for. */
+PILHANGKO_NODISCARD static inline pilhangko_status pilhangko_heaps_made(
+    pilhangko_heaps *heaps, uint64_t resource, pilhangko_heaps_committed *committed) {
+    if (!heaps || !committed) return PILHANGKO_NULL_POINTER;
+    return pilhangko_raw_heaps_made(heaps, resource, committed);
+}
+
+/* The driver made no committed resource: nothing is left of the request.
+ * NO_HANDLE. AWAITS_NO_ANSWER: no committed resource is asked for. */
+PILHANGKO_NODISCARD static inline pilhangko_status pilhangko_heaps_not_made(pilhangko_heaps *heaps) {
+    if (!heaps) return PILHANGKO_NULL_POINTER;
+    return pilhangko_raw_heaps_not_made(heaps);
+}
+
+/* Forgets a committed resource, which the caller releases. It needs no host memory.
+ * NO_HANDLE. AWAITS_ANSWER: a committed resource is asked for. NOT_LIVE: no record is the same in all three. */
+PILHANGKO_NODISCARD static inline pilhangko_status pilhangko_heaps_forget_committed(
+    pilhangko_heaps *heaps, const pilhangko_heaps_committed *committed) {
+    if (!heaps || !committed) return PILHANGKO_NULL_POINTER;
+    return pilhangko_raw_heaps_forget_committed(heaps, committed);
+}
+
+/* What is counted of a memory type's committed resources.
+ * NO_HANDLE. NO_SUCH_TYPE. */
+PILHANGKO_NODISCARD static inline pilhangko_status pilhangko_heaps_committed_of(
+    const pilhangko_heaps *heaps, size_t memory_type, pilhangko_heaps_committed_statistics *statistics) {
+    if (!heaps || !statistics) return PILHANGKO_NULL_POINTER;
+    return pilhangko_raw_heaps_committed_of(heaps, memory_type, statistics);
+}
+
+/* By which call a resource is made, by the device's newest interface, and whether the resource begins in a barrier layout and has castable
+ * formats. It has no handle.
+ * INVALID: no interface has that version. FORMATS_NEED_LAYOUT. FORMATS_NEED_DEVICE12. LAYOUT_NEEDS_DEVICE10. */
+PILHANGKO_NODISCARD static inline pilhangko_status pilhangko_heaps_choose_call(
+    pilhangko_device_version version, bool in_layout, bool has_formats, pilhangko_create_call *call) {
+    if (!call) return PILHANGKO_NULL_POINTER;
+    return pilhangko_raw_heaps_choose_call(version, in_layout, has_formats, call);
+}
+
+/* How many memory types there are: 3, for GPU_ONLY, CPU_TO_GPU and GPU_TO_CPU, or 9 at tier 1, where each of them has one for buffers, one
+ * for render targets and depth stencils, and one for other textures.
+ * NO_HANDLE. */
+PILHANGKO_NODISCARD static inline pilhangko_status pilhangko_heaps_type_count(const pilhangko_heaps *heaps, size_t *count) {
+    if (!heaps || !count) return PILHANGKO_NULL_POINTER;
+    return pilhangko_raw_heaps_type_count(heaps, count);
+}
+
+/* Bounds the sum of the sizes of a memory type's blocks, or takes the bound away. A bound below the present sum gives no block back.
+ * NO_HANDLE. AWAITS_ANSWER: a question for a heap is open. NO_SUCH_TYPE. */
+PILHANGKO_NODISCARD static inline pilhangko_status pilhangko_heaps_set_budget(
+    pilhangko_heaps *heaps, size_t memory_type, bool has_budget, uint64_t bytes) {
+    if (!heaps) return PILHANGKO_NULL_POINTER;
+    return pilhangko_raw_heaps_set_budget(heaps, memory_type, has_budget, bytes);
+}
+
+/* The bound of a memory type; none where it has none, or isn't there.
+ * NO_HANDLE. */
+PILHANGKO_NODISCARD static inline pilhangko_status pilhangko_heaps_budget(
+    const pilhangko_heaps *heaps, size_t memory_type, pilhangko_budget *budget) {
+    if (!heaps || !budget) return PILHANGKO_NULL_POINTER;
+    return pilhangko_raw_heaps_budget(heaps, memory_type, budget);
+}
+
+/* The sum of the sizes of the live blocks. A block that is awaited isn't one, and a committed resource isn't either.
+ * NO_HANDLE. */
+PILHANGKO_NODISCARD static inline pilhangko_status pilhangko_heaps_capacity(
+    const pilhangko_heaps *heaps, uint64_t *bytes) {
+    if (!heaps || !bytes) return PILHANGKO_NULL_POINTER;
+    return pilhangko_raw_heaps_capacity(heaps, bytes);
+}
+
+/* The sum of the sizes of a memory type's blocks.
+ * NO_HANDLE. NO_SUCH_TYPE. */
+PILHANGKO_NODISCARD static inline pilhangko_status pilhangko_heaps_type_capacity(
+    const pilhangko_heaps *heaps, size_t memory_type, uint64_t *bytes) {
+    if (!heaps || !bytes) return PILHANGKO_NULL_POINTER;
+    return pilhangko_raw_heaps_type_capacity(heaps, memory_type, bytes);
+}
+
+/* What is counted of a memory type, in linear time. Memory types are numbered from 0 up to the first NO_SUCH_TYPE.
+ * NO_HANDLE. NO_SUCH_TYPE. */
+PILHANGKO_NODISCARD static inline pilhangko_status pilhangko_heaps_type_statistics(
+    const pilhangko_heaps *heaps, size_t memory_type, pilhangko_type_statistics *statistics) {
+    if (!heaps || !statistics) return PILHANGKO_NULL_POINTER;
+    return pilhangko_raw_heaps_type_statistics(heaps, memory_type, statistics);
+}
+
+/* The same of all memory types together: the sums, and the longest gap of any; without a budget.
+ * NO_HANDLE. */
+PILHANGKO_NODISCARD static inline pilhangko_status pilhangko_heaps_statistics(
+    const pilhangko_heaps *heaps, pilhangko_type_statistics *statistics) {
+    pilhangko_type_statistics all = {0, 0, 0, false, 0, 0, 0, 0, 0}, one;
+    pilhangko_status status;
+    size_t memory_type = 0;
+    if (!heaps || !statistics) return PILHANGKO_NULL_POINTER;
+    while ((status = pilhangko_raw_heaps_type_statistics(heaps, memory_type++, &one)) == PILHANGKO_OK) {
+        all.capacity += one.capacity;
+        all.slots += one.slots;
+        all.shared_blocks += one.shared_blocks;
+        all.pieces += one.pieces;
+        all.piece_bytes += one.piece_bytes;
+        all.gaps += one.gaps;
+        if (one.longest_gap > all.longest_gap) all.longest_gap = one.longest_gap;
+    }
+    if (status != PILHANGKO_NO_SUCH_TYPE) return status;
+    *statistics = all;
+    return PILHANGKO_OK;
+}
+
+/* The heap of the block in a slot of a memory type, if one is there. Slots are numbered from 0 to one less than type_statistics' slots; behind them
+ * there is none.
+ * NO_HANDLE. */
+PILHANGKO_NODISCARD static inline pilhangko_status pilhangko_heaps_block(
+    const pilhangko_heaps *heaps, size_t memory_type, size_t slot, pilhangko_memory_block *block) {
+    if (!heaps || !block) return PILHANGKO_NULL_POINTER;
+    return pilhangko_raw_heaps_block(heaps, memory_type, slot, block);
+}
+
+/* What is counted of the block in a slot.
+ * NO_HANDLE. */
+PILHANGKO_NODISCARD static inline pilhangko_status pilhangko_heaps_block_statistics(
+    const pilhangko_heaps *heaps, size_t memory_type, size_t slot, pilhangko_memory_block_statistics *statistics) {
+    if (!heaps || !statistics) return PILHANGKO_NULL_POINTER;
+    return pilhangko_raw_heaps_block_statistics(heaps, memory_type, slot, statistics);
+}
+
+/* All live pieces of the block in a slot whose own bytes begin at `from` or behind it, in order of offset; none where the slot has no
+ * block. One call with room for what block_statistics counts visits them all, in linear time.
+ * NO_HANDLE. */
+PILHANGKO_NODISCARD static inline pilhangko_status pilhangko_heaps_pieces(const pilhangko_heaps *heaps, size_t memory_type,
+    size_t slot, uint64_t from, pilhangko_piece_view *pieces, size_t room, size_t *count) {
+    pilhangko_piece_view none;
+    if (!heaps || (!pieces && room) || !count) return PILHANGKO_NULL_POINTER;
+    return pilhangko_raw_heaps_pieces(heaps, memory_type, slot, from, pieces ? pieces : &none, room, count);
+}
+
+/* The names of the pieces of the block in a slot, as with a virtual block.
+ * NO_HANDLE. */
+PILHANGKO_NODISCARD static inline pilhangko_status pilhangko_heaps_piece_names(const pilhangko_heaps *heaps, size_t memory_type,
+    size_t slot, uint64_t from, size_t *lengths, size_t room, char *names, size_t names_room, size_t *count) {
+    size_t no_length;
+    char no_name;
+    if (!heaps || (!lengths && room) || (!names && names_room) || !count) return PILHANGKO_NULL_POINTER;
+    return pilhangko_raw_heaps_piece_names(
+        heaps, memory_type, slot, from, lengths ? lengths : &no_length, room, names ? names : &no_name, names_room, count);
+}
+
+/* The report of what is allocated as JSON (docs/REPORT.md): copies as many bytes of it as there is room for, with no 0 behind them, and
+ * reports how many it has. A first call without room tells how much a second one needs.
+ * NO_HANDLE. HOST_OUT_OF_MEMORY. */
+PILHANGKO_NODISCARD static inline pilhangko_status pilhangko_heaps_report(
+    const pilhangko_heaps *heaps, char *text, size_t room, size_t *length) {
+    char none;
+    if (!heaps || (!text && room) || !length) return PILHANGKO_NULL_POINTER;
+    return pilhangko_raw_heaps_report(heaps, text ? text : &none, room, length);
+}
+
+/* One live piece's text, as a leak is reported: the pieces have indices from 0, by memory type, then by slot, then in order of offset; past
+ * the last one the text is empty. Copies and reports as report does.
+ * NO_HANDLE. HOST_OUT_OF_MEMORY. */
+PILHANGKO_NODISCARD static inline pilhangko_status pilhangko_heaps_leak(
+    const pilhangko_heaps *heaps, size_t index, char *text, size_t room, size_t *length) {
+    char none;
+    if (!heaps || (!text && room) || !length) return PILHANGKO_NULL_POINTER;
+    return pilhangko_raw_heaps_leak(heaps, index, text ? text : &none, room, length);
+}
+
+/* Ends an allocator, with all its pieces, records and open questions, and leaves the handle empty. Heaps and committed resources are the
+ * caller's to release: go over types and slots by pilhangko_heaps_block first.
+ * NO_HANDLE. */
+static inline pilhangko_status pilhangko_heaps_destroy(pilhangko_heaps *heaps) {
+    if (!heaps) return PILHANGKO_NULL_POINTER;
+    return pilhangko_raw_heaps_destroy(heaps);
+}
+
 /* Places resources in one heap: at the offsets of the order with the smallest heap, of equal ones the first of pilhangko_plan_order. Two
  * resources that are alive in one pass share no byte, and no page of page_size bytes (a power of two: bufferImageGranularity) where their
  * kinds differ; each offset is a multiple of its resource's alignment. Fills offsets, which has room for count of them, and plan. Equal
@@ -1208,6 +1634,27 @@ PILHANGKO_NODISCARD static inline pilhangko_status pilhangko_plan_reuses(const p
     size_t none;
     if (!resources || !offsets || (!reused && room) || !reused_count) return PILHANGKO_NULL_POINTER;
     return pilhangko_raw_plan_reuses(resources, count, offsets, count, index, reused ? reused : &none, room, reused_count);
+}
+
+/* Which resources share an allocation: the set of each. In their order each one joins the first set, none of them and itself dedicated, with
+ * which it has a memory type in common; where there is none, it begins one. Sets are numbered from 0, as they begin. Fills sets, which has room
+ * for count of them. Where count is 0, both may be NULL.
+ * HOST_OUT_OF_MEMORY. */
+PILHANGKO_NODISCARD static inline pilhangko_status pilhangko_plan_sets(const pilhangko_memory_needs *needs, size_t count, size_t *sets) {
+    static const pilhangko_memory_needs no_needs = {0, false};
+    size_t no_set = 0;
+    if ((!needs || !sets) && count) return PILHANGKO_NULL_POINTER;
+    return pilhangko_raw_plan_sets(needs ? needs : &no_needs, count, sets ? sets : &no_set, count);
+}
+
+/* The memory for a heap in which these resources lie. Where all are of one kind, so is the memory, as large as the heap; where they are of
+ * both, it begins with a page and takes whole ones, so that nothing else lies on them. Where count is 0, resources may be NULL.
+ * INVALID: the page size, or a resource. OUT_OF_MEMORY: whole pages would pass 2^64 - 1. HOST_OUT_OF_MEMORY. */
+PILHANGKO_NODISCARD static inline pilhangko_status pilhangko_plan_memory(const pilhangko_plan_resource *resources, size_t count,
+    uint64_t heap_size, uint64_t page_size, pilhangko_heap_memory *memory) {
+    static const pilhangko_plan_resource no_resource = {0, 0, PILHANGKO_KIND_LINEAR, 0, 0};
+    if ((!resources && count) || !memory) return PILHANGKO_NULL_POINTER;
+    return pilhangko_raw_plan_memory(resources ? resources : &no_resource, count, heap_size, page_size, memory);
 }
 
 #ifdef __cplusplus

@@ -13,9 +13,9 @@ use Rattle.gpu_vulkan.specs.Allocate.{is_valid}
 use Rattle.gpu_vulkan.specs.declared.describe.AllocationCreateDesc.{AllocationCreateDesc}
 use Rattle.gpu_machine.specs.VulkanBegin.{request_in, IsTooLarge, IsWithinHeap, Tries, Begins, BeginsIn, BeginsBy, BeginsAt, MakesAttempts, Follows}
 use Rattle.gpu_machine.specs.VulkanDescription.{description_of}
-use Rattle.gpu_c.specs.Allocator.{State, refusal_status, Says}
+use Rattle.gpu_c.specs.Allocator.{State, Says}
 use Rattle.gpu_c.specs.Status as status
-use Rattle.gpu_c.specs.Status.{IsOneOf}
+use Rattle.gpu_c.specs.Status.{IsOneOf, refusal_status}
 use Rattle.gpu_c.specs.declared.allocator_values.AllocatorRequest.{AllocatorRequest}
 
 abbrev pub Told : Refusal → Type 0

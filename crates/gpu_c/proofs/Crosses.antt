@@ -7,6 +7,7 @@ use Rattle.core.specs.contracts.option.Option as Option
 use Rattle.std.proofs.Crossing as heap
 use Rattle.std.proofs.Crossing.{Vec-send, Box-send, Deque-send}
 use Rattle.std_alloc.specs.contracts.string.String as String
+use Rattle.std_alloc.specs.contracts.vec.Vec as Vec
 use Rattle.std_heap.specs.contracts.Global as Heap
 use Rattle.std_heap.specs.contracts.GlobalAllocator.TheImpl.{ghosts}
 use Rattle.gpu_block_gaps.specs.contracts.class_set.ClassSet as ClassSet
@@ -49,6 +50,14 @@ use Rattle.gpu_vulkan.specs.contracts.setup.Settings as Settings
 use Rattle.gpu_vulkan.specs.contracts.setup.Setup as Setup
 use Rattle.gpu_pool.specs.contracts.requests.Awaited as Awaited
 use Rattle.gpu_pool.specs.contracts.requests.Requests as Requests
+use Rattle.gpu_device.specs.contracts.d3d12.types.ID3D12Heap as ID3D12Heap
+use Rattle.gpu_device.specs.contracts.d3d12.types.ID3D12HeapPartialEq.TheImpl as heap_eq
+use Rattle.gpu_device.specs.contracts.d3d12.types.ID3D12Resource as ID3D12Resource
+use Rattle.gpu_device.specs.contracts.d3d12.types.ResourceHeapTier as ResourceHeapTier
+use Rattle.gpu_d3d12.specs.contracts.committed_record.CommittedRecord as CommittedRecord
+use Rattle.gpu_d3d12.specs.contracts.committed_requests.AwaitedResource as AwaitedResource
+use Rattle.gpu_d3d12.specs.contracts.committed_requests.CommittedRequests as CommittedRequests
+use Rattle.gpu_machine.specs.contracts.d3d12.machine.Machine as D3D12Machine
 use Rattle.gpu_machine.specs.contracts.vulkan.asking.Asking as Asking
 use Rattle.gpu_machine.specs.contracts.vulkan.description.Description as Description
 use Rattle.gpu_machine.specs.contracts.vulkan.machine.Machine as Machine
@@ -239,23 +248,24 @@ awaiting_answer_send = let a = awaited_send in search sendable depth 20
 memory_send : IsSend MappedMemory.the_row
 memory_send = search sendable depth 20
 
-types_of : ((e : eq.Ghosts MappedMemory.the_row.Denot) → IsSend (MemoryType.the_row MappedMemory.the_row e)) → (e : eq.Ghosts MappedMemory.the_row.Denot) → IsSend (MemoryTypes.the_row MappedMemory.the_row e)
-types_of t e = let m = t e in search (sendable, Vec-send) depth 20
+module _ (H : RattleType) where
+  types_of : ((e : eq.Ghosts H.Denot) → IsSend (MemoryType.the_row H e)) → (e : eq.Ghosts H.Denot) → IsSend (MemoryTypes.the_row H e)
+  types_of t e = let m = t e in search (sendable, Vec-send) depth 20
 
-requests_of : ((e : eq.Ghosts MappedMemory.the_row.Denot) → IsSend (MemoryType.the_row MappedMemory.the_row e)) → (e : eq.Ghosts MappedMemory.the_row.Denot) → IsSend (Requests.the_row MappedMemory.the_row e)
-requests_of t e =
-    let z = sizes_send in let a = awaiting_answer_send in
-    record {
-      owned = λ d vs x. ((λ vss. (tt, (z.owned x.0.sizes vss.0, ((types_of t e).owned x.0.types vss.1.0, (a.owned x.0.awaited vss.1.1.0, tt))))), tt);
-      leaving = λ k d w. tt;
-    }
+  requests_of : ((e : eq.Ghosts H.Denot) → IsSend (MemoryType.the_row H e)) → (e : eq.Ghosts H.Denot) → IsSend (Requests.the_row H e)
+  requests_of t e =
+      let z = sizes_send in let a = awaiting_answer_send in
+      record {
+        owned = λ d vs x. ((λ vss. (tt, (z.owned x.0.sizes vss.0, ((types_of t e).owned x.0.types vss.1.0, (a.owned x.0.awaited vss.1.1.0, tt))))), tt);
+        leaving = λ k d w. tt;
+      }
 
 machine_of : ((e : eq.Ghosts MappedMemory.the_row.Denot) → IsSend (MemoryType.the_row MappedMemory.the_row e)) → IsSend (Machine.the_row MappedMemory.the_row memory_eq.ghosts)
 machine_of t =
     let s = setup_send in let a = asking_option_send in let g = heap.send in
     record {
       owned = λ d vs x. (
-        (λ vss. (tt, (g.owned _ vss.0, (s.owned x.0.setup vss.1.0, ((requests_of t memory_eq.ghosts).owned x.0.requests vss.1.1.0, (a.owned x.0.asking vss.1.1.1.0, tt)))))),
+        (λ vss. (tt, (g.owned _ vss.0, (s.owned x.0.setup vss.1.0, ((requests_of MappedMemory.the_row t memory_eq.ghosts).owned x.0.requests vss.1.1.0, (a.owned x.0.asking vss.1.1.1.0, tt)))))),
         tt,
       );
       leaving = λ k d w. tt;
@@ -263,6 +273,50 @@ machine_of t =
 
 pub machine_send : IsSend (Machine.the_row MappedMemory.the_row memory_eq.ghosts)
 machine_send = machine_of (λ e. type_send MappedMemory.the_row e memory_send)
+
+-- ---- an allocator of DirectX 12's memory
+heap_number_send : IsSend ID3D12Heap.the_row
+heap_number_send = search sendable depth 20
+
+tier_send : IsSend ResourceHeapTier.the_row
+tier_send = search sendable depth 20
+
+resource_send : IsSend ID3D12Resource.the_row
+resource_send = search sendable depth 20
+
+committed_record_send : IsSend CommittedRecord.the_row
+committed_record_send = let r = resource_send in search sendable depth 20
+
+awaited_resource_send : IsSend AwaitedResource.the_row
+awaited_resource_send = search sendable depth 20
+
+awaiting_resource_send : IsSend (Option.the_row AwaitedResource.the_row)
+awaiting_resource_send = let a = awaited_resource_send in search sendable depth 20
+
+records_send : IsSend (Vec.the_row CommittedRecord.the_row Heap.the_row ghosts)
+records_send = Vec-send CommittedRecord.the_row committed_record_send
+
+committed_send : IsSend CommittedRequests.the_row
+committed_send =
+    let r = Vec-send (Vec.the_row CommittedRecord.the_row Heap.the_row ghosts) records_send in let a = awaiting_resource_send in
+    record {
+      owned = λ d vs x. ((λ vss. (tt, (r.owned x.0.types vss.0, (a.owned x.0.awaited vss.1.0, tt)))), tt);
+      leaving = λ k d w. tt;
+    }
+
+d3d12_of : ((e : eq.Ghosts ID3D12Heap.the_row.Denot) → IsSend (MemoryType.the_row ID3D12Heap.the_row e)) → IsSend D3D12Machine.the_row
+d3d12_of t =
+    let g = heap.send in let i = tier_send in let c = committed_send in
+    record {
+      owned = λ d vs x. (
+        (λ vss. (tt, (g.owned _ vss.0, ((requests_of ID3D12Heap.the_row t heap_eq.ghosts).owned x.0.requests vss.1.0, (i.owned x.0.tier vss.1.1.0, (c.owned x.0.committed vss.1.1.1.0, tt)))))),
+        tt,
+      );
+      leaving = λ k d w. tt;
+    }
+
+pub d3d12_send : IsSend D3D12Machine.the_row
+d3d12_send = d3d12_of (λ e. type_send ID3D12Heap.the_row e heap_number_send)
 
 -- ---- a ring
 frame_send : IsSend FrameStatistics.the_row

@@ -9,8 +9,12 @@ mod MemoryTypeHandleWords
 mod AllocatorLaws
 mod AllocatorRefusals
 mod AllocatorHandleWords
+mod HeapsHandleWords
+mod HeapsLaws
+mod HeapsRefusals
+mod CreateCalls
 mod RingHandleWords
 mod Crosses
 mod HandleCrosses
-mod AllocatorVisits
+mod TypesVisits
 mod ToldPlans

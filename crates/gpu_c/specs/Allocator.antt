@@ -4,13 +4,10 @@ use Rattle.std.specs.Option.{is_some, unwrap_or}
 use Rattle.std.specs.List.{list_any}
 use Rattle.std.specs.Int.{is_power_of_two}
 use Rattle.std.specs.Int.NonZero.{non_zero_u64_get}
-use Rattle.gpu_values.specs.Refusal as refusals
 use Rattle.gpu_values.specs.Refusal.{Refusal, refusal_of}
 use Rattle.gpu_values.specs.Sizes.{Sizes, only_size, with_largest}
 use Rattle.gpu_values.specs.declared.allocator_debug_settings.AllocatorDebugSettings.{AllocatorDebugSettings}
 use Rattle.gpu_values.specs.declared.error.AllocationError.{AllocationError}
-use Rattle.gpu_values.specs.declared.memory_location.MemoryLocation.{MemoryLocation}
-use Rattle.gpu_values.specs.declared.memory_location.MemoryLocation.TheVariants as locations
 use Rattle.gpu_core.specs.declared.piece.Piece.{Piece}
 use Rattle.gpu_device.specs.Properties.{Properties}
 use Rattle.gpu_device.specs.declared.vulkan.types.AllocationScheme.{AllocationScheme}
@@ -32,8 +29,9 @@ use Rattle.gpu_machine.specs.declared.vulkan.answer.Progress.{Progress}
 use Rattle.gpu_machine.specs.declared.vulkan.answer.Progress.TheVariants as progress
 use Rattle.gpu_machine.specs.declared.vulkan.answer.Question.{Question}
 use Rattle.gpu_c.specs.MemoryType.{no_memory_piece}
-use Rattle.gpu_c.specs.Request.{IsServed, linear}
+use Rattle.gpu_c.specs.Request.{IsServed, linear, location_named}
 use Rattle.gpu_c.specs.Status as status
+use Rattle.gpu_c.specs.Status.{refusal_status}
 use Rattle.gpu_c.specs.declared.mapped_memory.MappedMemory.{MappedMemory}
 use Rattle.gpu_c.specs.declared.memory_type_values.MemoryPiece.{MemoryPiece}
 use Rattle.gpu_c.specs.declared.allocator_values.AllocatorBlock.{AllocatorBlock}
@@ -96,29 +94,7 @@ device_status p =
     (if nat_lt 32 (length p.types) then status.too_many_types else
     (if list_any (lacks_heap p) p.types then status.no_such_heap else status.ok))
 
--- the status of a refusal; what the driver refused for a cause without an error of its own is the last one
-abbrev pub refusal_status : Refusal → ℕ
-refusal_status refusals.out_of_memory = status.out_of_memory
-refusal_status (refusals.failed_to_map text code) = status.failed_to_map
-refusal_status refusals.no_compatible_memory_type_found = status.no_memory_type
-refusal_status refusals.invalid_allocation_create_desc = status.invalid
-refusal_status (refusals.invalid_allocator_create_desc text code) = status.invalid_device
-refusal_status (refusals.internal text code) = status.driver_refused
-refusal_status refusals.barrier_layout_needs_device10 = status.driver_refused
-refusal_status refusals.castable_formats_requires_enhanced_barriers = status.driver_refused
-refusal_status refusals.castable_formats_requires_at_least_device12 = status.driver_refused
-refusal_status refusals.host_out_of_memory = status.host_out_of_memory
-refusal_status refusals.budget_exceeded = status.budget_exceeded
-
 -- ---- a request
-
--- the location of that number
-abbrev pub location_named : ℕ → Option MemoryLocation
-location_named n =
-    if n == 1 then Some locations.Unknown else
-    (if n == 2 then Some locations.GpuOnly else
-    (if n == 3 then Some locations.CpuToGpu else
-    (if n == 4 then Some locations.GpuToCpu else None)))
 
 -- what memory is made for: whatever its owner puts there, or a buffer or an image alone
 abbrev pub scheme_named : (scheme resource : ℕ) → Option AllocationScheme

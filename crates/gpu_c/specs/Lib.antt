@@ -5,7 +5,11 @@ pub mod Visit
 pub mod MemoryType
 pub mod Owned
 pub mod Allocator
-pub mod AllocatorVisit
+pub mod TypesVisit
+pub mod AllocatorChoice
+pub mod Heaps
+pub mod CreateCall
 pub mod Ring
 pub mod Handle
 pub mod Plan
+pub mod PlanMemory

@@ -37,6 +37,11 @@ pub record IsPlannable (r : PlanResource) : Type 0 where
   pub named : (r.kind ≡ linear) ⊎ (r.kind ≡ non_linear)
   pub lives : r.first_pass ≤ r.last_pass
 
+-- pages, and resources that can be planned
+pub record HasMemory (resources : List PlanResource) (page_size : ℕ) : Type 0 where
+  pub paged : IsTrue (is_power_of_two page_size)
+  pub each : All IsPlannable resources
+
 -- what can be planned, and room for an offset each
 pub record CanPlan (resources : List PlanResource) (page_size : ℕ) (offsets : List ℕ) : Type 0 where
   pub paged : IsTrue (is_power_of_two page_size)

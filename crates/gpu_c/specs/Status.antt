@@ -1,5 +1,7 @@
 -- The statuses of the library's errors.
 use Rattle.std.specs.Prelude.{◌≡◌, ◌⊎◌, ℕ, List, [], ◌∷◌}
+use Rattle.gpu_values.specs.Refusal as refusals
+use Rattle.gpu_values.specs.Refusal.{Refusal}
 use Rattle.gpu_values.specs.declared.error.AllocationError.{AllocationError}
 use Rattle.gpu_values.specs.declared.error.AllocationError.TheVariants as errors
 
@@ -25,13 +27,25 @@ no_memory_type = 3
 abbrev pub invalid : ℕ
 invalid = 4
 
--- a device's page size is no power of two
+-- a device's page size is no power of two, or its resource heap tier is 0
 abbrev pub invalid_device : ℕ
 invalid_device = 5
 
--- no live piece is the one that was named
+-- no live piece, or no record of a committed resource, is the one that was named
 abbrev pub not_live : ℕ
 not_live = 6
+
+-- a resource begins in a barrier layout, and the device is no ID3D12Device10
+abbrev pub layout_needs_device10 : ℕ
+layout_needs_device10 = 7
+
+-- a resource has castable formats, and begins in a state
+abbrev pub formats_need_layout : ℕ
+formats_need_layout = 8
+
+-- a resource has castable formats, and the device is no ID3D12Device12
+abbrev pub formats_need_device12 : ℕ
+formats_need_device12 = 9
 
 -- the host refused memory
 abbrev pub host_out_of_memory : ℕ
@@ -98,6 +112,20 @@ status_of (errors.InvalidAllocatorCreateDesc _) = not_live
 status_of errors.BarrierLayoutNeedsDevice10 = not_live
 status_of errors.CastableFormatsRequiresEnhancedBarriers = not_live
 status_of errors.CastableFormatsRequiresAtLeastDevice12 = not_live
+
+-- the status of an allocator's refusal; what the driver refused for a cause without an error of its own is driver_refused
+abbrev pub refusal_status : Refusal → ℕ
+refusal_status refusals.out_of_memory = out_of_memory
+refusal_status (refusals.failed_to_map text code) = failed_to_map
+refusal_status refusals.no_compatible_memory_type_found = no_memory_type
+refusal_status refusals.invalid_allocation_create_desc = invalid
+refusal_status (refusals.invalid_allocator_create_desc text code) = invalid_device
+refusal_status (refusals.internal text code) = driver_refused
+refusal_status refusals.barrier_layout_needs_device10 = layout_needs_device10
+refusal_status refusals.castable_formats_requires_enhanced_barriers = formats_need_layout
+refusal_status refusals.castable_formats_requires_at_least_device12 = formats_need_device12
+refusal_status refusals.host_out_of_memory = host_out_of_memory
+refusal_status refusals.budget_exceeded = budget_exceeded
 
 -- a call returns no other status than these
 abbrev pub IsOneOf : ℕ → List ℕ → Type 0

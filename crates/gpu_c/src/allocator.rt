@@ -8,11 +8,11 @@ ghost use Rattle.gpu_machine.specs.VulkanState.{told_fault};
 ghost use Rattle.gpu_c.specs.Status as status;
 ghost use Rattle.gpu_c.specs.Status.{IsOneOf};
 ghost use Rattle.gpu_c.specs.MemoryType.{number_if};
-ghost use Rattle.gpu_c.specs.Allocator.{device_told, IsFresh, SaysNothing, IsBegun, IsDenied, IsGranted, IsDeclined, code_if, IsLive, IsFreed, IsRenamed, refusal_status};
+ghost use Rattle.gpu_c.specs.Allocator.{device_told, IsFresh, SaysNothing, IsBegun, IsDenied, IsGranted, IsDeclined, code_if, IsLive, IsFreed, IsRenamed};
 ghost use Rattle.gpu_c.specs.declared.status.TheConstants.{OK, OUT_OF_MEMORY, FAILED_TO_MAP, NO_MEMORY_TYPE, INVALID, INVALID_DEVICE, NOT_LIVE, HOST_OUT_OF_MEMORY, BUDGET_EXCEEDED, DRIVER_REFUSED, NO_SUCH_TYPE, AWAITS_ANSWER, AWAITS_NO_ANSWER};
 
 use crate::allocator_answer::{
-    allocated_told, code_if, memory_told, named_piece, outcome_told, progress_told, refusal_status,
+    allocated_told, code_if, memory_told, named_piece, outcome_told, progress_told,
 };
 use crate::allocator_request::{described, heaps_of, memory_types_of, settings_of};
 use crate::allocator_values::{
@@ -21,6 +21,7 @@ use crate::allocator_values::{
 };
 use crate::mapped_memory::MappedMemory;
 use crate::memory_type::number_if;
+use crate::refusal::refusal_status;
 use crate::status::{
     AWAITS_ANSWER, AWAITS_NO_ANSWER, HOST_OUT_OF_MEMORY, INVALID, NO_SUCH_TYPE, NOT_LIVE, OK,
 };

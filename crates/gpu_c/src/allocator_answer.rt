@@ -1,10 +1,9 @@
 //! What an allocator answers, as C is told.
 
 ghost use Rattle.std.specs.Prelude.{◌≡◌, MatchOption};
-ghost use Rattle.gpu_values.specs.Refusal.{refusal_of};
-ghost use Rattle.gpu_c.specs.Allocator.{refusal_status, piece_told, Names, allocated_told, no_allocator_piece, question_told, no_question, progress_told, outcome_told, memory_told, block_told, budget_told, code_if};
+ghost use Rattle.gpu_c.specs.Allocator.{piece_told, Names, allocated_told, no_allocator_piece, question_told, no_question, progress_told, outcome_told, memory_told, block_told, budget_told, code_if};
 ghost use Rattle.gpu_c.specs.MemoryType.{no_memory_piece};
-ghost use Rattle.gpu_c.specs.declared.status.TheConstants.{OK, OUT_OF_MEMORY, FAILED_TO_MAP, NO_MEMORY_TYPE, INVALID, INVALID_DEVICE, HOST_OUT_OF_MEMORY, BUDGET_EXCEEDED, DRIVER_REFUSED};
+ghost use Rattle.gpu_c.specs.declared.status.TheConstants.{OK};
 
 use crate::allocator_values::{
     AllocatorBlock, AllocatorBudget, AllocatorMemory, AllocatorPiece, AllocatorProgress,
@@ -12,13 +11,11 @@ use crate::allocator_values::{
 };
 use crate::mapped_memory::MappedMemory;
 use crate::memory_type_values::MemoryPiece;
-use crate::status::{
-    BUDGET_EXCEEDED, DRIVER_REFUSED, FAILED_TO_MAP, HOST_OUT_OF_MEMORY, INVALID, INVALID_DEVICE,
-    NO_MEMORY_TYPE, OK, OUT_OF_MEMORY,
-};
+use crate::refusal::refusal_status;
+use crate::status::OK;
 use gpu_core::Piece;
 use gpu_machine::vulkan::{Allocated, LiveBlock, MemoryBack, Progress, Question};
-use gpu_values::{AllocationError, Result};
+use gpu_values::Result;
 use std::num::NonZeroU64;
 
 fn piece_told(piece: &Piece<MappedMemory>) -> MemoryPiece
@@ -202,20 +199,4 @@ pub fn code_if(exists: bool, code: i32) -> Option<i32>
     ensures { result ≡ code_if exists code }
 {
     if exists { Some(code) } else { None }
-}
-
-/// The status of an allocator's refusal.
-pub fn refusal_status(error: &AllocationError) -> u32
-    ensures { result ≡ refusal_status (refusal_of error.now) }
-{
-    match error {
-        AllocationError::OutOfMemory => OUT_OF_MEMORY,
-        AllocationError::FailedToMap(_) => FAILED_TO_MAP,
-        AllocationError::NoCompatibleMemoryTypeFound => NO_MEMORY_TYPE,
-        AllocationError::InvalidAllocationCreateDesc => INVALID,
-        AllocationError::InvalidAllocatorCreateDesc(_) => INVALID_DEVICE,
-        AllocationError::HostOutOfMemory => HOST_OUT_OF_MEMORY,
-        AllocationError::BudgetExceeded => BUDGET_EXCEEDED,
-        _ => DRIVER_REFUSED,
-    }
 }

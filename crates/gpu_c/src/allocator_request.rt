@@ -6,36 +6,23 @@ ghost use Rattle.std.specs.Int.{is_power_of_two};
 ghost use Rattle.gpu_vulkan.specs.Setup.{lacks_heap};
 ghost use Rattle.gpu_machine.specs.VulkanDescription.{description_of};
 ghost use Rattle.gpu_c.specs.declared.allocator_values.AllocatorSettings.{AllocatorSettings};
-ghost use Rattle.gpu_c.specs.Allocator.{memory_type_told, heap_told, device_told, device_status, block_sizes, location_named, scheme_named, Says, SaysNothing, no_lines};
+ghost use Rattle.gpu_c.specs.Allocator.{memory_type_told, heap_told, device_told, device_status, block_sizes, scheme_named, Says, SaysNothing, no_lines};
 ghost use Rattle.gpu_c.specs.declared.request.TheConstants.{LINEAR};
 ghost use Rattle.gpu_c.specs.declared.status.TheConstants.{OK, INVALID_DEVICE, TOO_MANY_TYPES, NO_SUCH_HEAP};
 
 use crate::allocator_values::{AllocatorRequest, AllocatorSettings, DeviceHeap, DeviceMemoryType};
-use crate::request::{LINEAR, served};
+use crate::request::{LINEAR, location_named, served};
 use crate::status::{INVALID_DEVICE, NO_SUCH_HEAP, OK, TOO_MANY_TYPES};
 use gpu_device::vulkan::{
     AllocationScheme, Buffer, Image, MemoryHeap, MemoryPropertyFlags, MemoryRequirements,
     MemoryTypeInfo,
 };
-use gpu_values::{AllocationSizes, AllocatorDebugSettings, MemoryLocation};
+use gpu_values::{AllocationSizes, AllocatorDebugSettings};
 use gpu_vulkan::{AllocationCreateDesc, Settings};
 use std::alloc::{AllocError, Global};
 
 /// How many memory types a device may have (`VK_MAX_MEMORY_TYPES`).
 const MAX_MEMORY_TYPES: usize = 32;
-
-/// The location of that number; `None` where none has it.
-fn location_named(location: u32) -> Option<MemoryLocation>
-    ensures { result ≡ location_named location }
-{
-    match location {
-        1 => Some(MemoryLocation::Unknown),
-        2 => Some(MemoryLocation::GpuOnly),
-        3 => Some(MemoryLocation::CpuToGpu),
-        4 => Some(MemoryLocation::GpuToCpu),
-        _ => None,
-    }
-}
 
 /// What memory is made for, by its number; `None` where nothing has it.
 fn scheme_named(scheme: u32, resource: u64) -> Option<AllocationScheme>

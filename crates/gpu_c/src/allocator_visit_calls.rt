@@ -1,6 +1,6 @@
 //! Exports that look at an allocator, also while a question is open, and change nothing.
 
-ghost use Rattle.std.specs.Prelude.{◌≡◌, ◌≢◌, ◌≤◌, ◌↔◌, [], ◌∷◌, Some, None, IsSome, IsSomeAnd, length};
+ghost use Rattle.std.specs.Prelude.{◌≡◌, ◌≢◌, ◌≤◌, ◌↔◌, [], ◌∷◌, Some, None, IsSome, IsSomeAnd, MatchOption, length};
 ghost use Rattle.std.specs.List.{slice_get};
 ghost use Rattle.gpu_core.specs.TypeReport.{pieces_in, statistics_in};
 ghost use Rattle.gpu_core.specs.TypeState.{slot_at, capacity_of};
@@ -10,22 +10,51 @@ ghost use Rattle.gpu_core.specs.Reports.{whole_report};
 ghost use Rattle.gpu_report.specs.ReportJson.{report_json};
 ghost use Rattle.gpu_machine.specs.VulkanCalls.{block_at};
 ghost use Rattle.gpu_c.specs.Allocator.{block_told};
-ghost use Rattle.gpu_c.specs.AllocatorVisit.{type_counts, ShowsText, ShowsLeak};
+ghost use Rattle.gpu_c.specs.AllocatorChoice.{type_named, TellsType};
+ghost use Rattle.gpu_c.specs.TypesVisit.{type_counts, ShowsText, ShowsLeak};
 ghost use Rattle.gpu_c.specs.MemoryType.{block_counts};
 ghost use Rattle.gpu_c.specs.Status as status;
 ghost use Rattle.gpu_c.specs.Status.{IsOneOf};
 ghost use Rattle.gpu_c.specs.Visit.{pieces_in_from, ShowsPieces, ShowsNames};
 ghost use Rattle.gpu_c.specs.declared.status.TheConstants.{OK, NO_HANDLE, HOST_OUT_OF_MEMORY, NO_SUCH_TYPE};
 
+use crate::allocator_answer::block_told;
+use crate::allocator_choice::best_type;
 use crate::allocator_handle::AllocatorHandle;
 use crate::allocator_values::{AllocatorBlock, TypeStatistics};
-use crate::allocator_visit::{
-    block, block_statistics, leak, piece_names, pieces, report, type_capacity, type_statistics,
-};
 use crate::memory_type_values::MemoryBlockStatistics;
 use crate::status::{NO_HANDLE, OK};
+use crate::types_visit::{
+    block_statistics, leak, piece_names, pieces, report, type_capacity, type_statistics,
+};
 use crate::virtual_block_values::PieceView;
 use std::alloc::Global;
+
+/// The memory type at which a request with these bits begins: the first with all that the location prefers, else the first with all that it
+/// must have. `INVALID`: the location. `NO_MEMORY_TYPE`.
+#[unsafe(no_mangle)]
+pub extern "C" fn pilhangko_raw_allocator_best_type(
+    allocator: &mut AllocatorHandle,
+    alloc: Global,
+    memory_type_bits: u32,
+    location: u32,
+    memory_type: &mut usize,
+) -> u32
+    ensures tells { MatchOption allocator.old.value ((result ≡ status.no_handle)
+        × (memory_type.new ≡ memory_type.old))
+        (λ s. TellsType (type_named s memory_type_bits location) result memory_type.old
+        memory_type.new) }
+    ensures same { allocator.new.value ≡ allocator.old.value }
+{
+    match allocator.take(alloc) {
+        None => NO_HANDLE,
+        Some(kept) => {
+            let status = best_type(&kept, memory_type_bits, location, memory_type);
+            allocator.put(kept);
+            status
+        }
+    }
+}
 
 /// What is counted of a memory type and of all its blocks together. `NO_SUCH_TYPE` past the last memory type.
 #[unsafe(no_mangle)]
@@ -36,7 +65,7 @@ pub extern "C" fn pilhangko_raw_allocator_type_statistics(
     statistics: &mut TypeStatistics,
 ) -> u32
     ensures reported { result ≡ status.ok
-        → IsSomeAnd allocator.old.value (λ s. statistics.new ≡ type_counts s index) }
+        → IsSomeAnd allocator.old.value (λ s. statistics.new ≡ type_counts s.requests.slots s.requests.budgets index) }
     ensures no_handle { (result ≡ status.no_handle) ↔ (allocator.old.value ≡ None) }
     ensures no_such_type { (result ≡ status.no_such_type)
         ↔ IsSomeAnd allocator.old.value (λ s. length s.requests.slots ≤ index) }
@@ -47,7 +76,7 @@ pub extern "C" fn pilhangko_raw_allocator_type_statistics(
     match allocator.take(alloc) {
         None => NO_HANDLE,
         Some(kept) => {
-            let status = type_statistics(&kept, index, statistics);
+            let status = type_statistics(kept.memory_types(), index, statistics);
             allocator.put(kept);
             status
         }
@@ -76,7 +105,7 @@ pub extern "C" fn pilhangko_raw_allocator_type_capacity(
     match allocator.take(alloc) {
         None => NO_HANDLE,
         Some(kept) => {
-            let status = type_capacity(&kept, index, bytes);
+            let status = type_capacity(kept.memory_types(), index, bytes);
             allocator.put(kept);
             status
         }
@@ -103,7 +132,7 @@ pub extern "C" fn pilhangko_raw_allocator_block(
     match allocator.take(alloc) {
         None => NO_HANDLE,
         Some(kept) => {
-            *shown = block(&kept, index, slot);
+            *shown = block_told(kept.block(index, slot));
             allocator.put(kept);
             OK
         }
@@ -131,7 +160,7 @@ pub extern "C" fn pilhangko_raw_allocator_block_statistics(
     match allocator.take(alloc) {
         None => NO_HANDLE,
         Some(kept) => {
-            *statistics = block_statistics(&kept, index, slot);
+            *statistics = block_statistics(kept.memory_types(), index, slot);
             allocator.put(kept);
             OK
         }
@@ -162,7 +191,7 @@ pub extern "C" fn pilhangko_raw_allocator_pieces(
     match allocator.take(alloc) {
         None => NO_HANDLE,
         Some(kept) => {
-            *count = pieces(&kept, index, slot, from, views);
+            *count = pieces(kept.memory_types(), index, slot, from, views);
             allocator.put(kept);
             OK
         }
@@ -195,7 +224,7 @@ pub extern "C" fn pilhangko_raw_allocator_piece_names(
     match allocator.take(alloc) {
         None => NO_HANDLE,
         Some(kept) => {
-            *count = piece_names(&kept, index, slot, from, lengths, names);
+            *count = piece_names(kept.memory_types(), index, slot, from, lengths, names);
             allocator.put(kept);
             OK
         }
@@ -224,7 +253,7 @@ pub extern "C" fn pilhangko_raw_allocator_report(
     match allocator.take(alloc) {
         None => NO_HANDLE,
         Some(kept) => {
-            let status = report(&kept, alloc, text, whole);
+            let status = report(kept.memory_types(), alloc, text, whole);
             allocator.put(kept);
             status
         }
@@ -257,7 +286,7 @@ pub extern "C" fn pilhangko_raw_allocator_leak(
     match allocator.take(alloc) {
         None => NO_HANDLE,
         Some(kept) => {
-            let status = leak(&kept, alloc, number, text, whole);
+            let status = leak(kept.memory_types(), alloc, number, text, whole);
             allocator.put(kept);
             status
         }

@@ -90,7 +90,8 @@ fn named_piece(piece: &MemoryPiece) -> Option<Piece<u64>>
     }
 }
 
-fn memory_block(block: Option<u64>) -> MemoryBlock
+/// A block as C sees it, or none.
+pub fn memory_block(block: Option<u64>) -> MemoryBlock
     ensures { result ≡ memory_block block }
 {
     match block {

@@ -55,7 +55,7 @@ fn resource_of(r: &PlanResource) -> Resource
 }
 
 /// The resources that are told, as plans know them.
-fn resources_of(alloc: Global, told: &[PlanResource]) -> Result<Vec<Resource>, AllocError>
+pub fn resources_of(alloc: Global, told: &[PlanResource]) -> Result<Vec<Resource>, AllocError>
     ensures { IfOk result (λ v. v.items ≡ map resource_told told.now) }
 {
     let mut resources = Vec::with_capacity(alloc, told.len())?;

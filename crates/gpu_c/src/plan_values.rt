@@ -16,6 +16,28 @@ pub struct PlanResource {
     pub last_pass: u64,
 }
 
+/// What memory a resource may lie in.
+#[repr(C)]
+#[derive(Clone, Copy)]
+pub struct PlanNeeds {
+    /// Bit N is set where memory type N serves.
+    pub memory_type_bits: u32,
+    /// Whether nothing else may lie in it.
+    pub dedicated: bool,
+}
+
+/// Memory to be allocated for a heap.
+#[repr(C)]
+#[derive(Drop)]
+pub struct HeapMemory {
+    /// Bytes.
+    pub size: u64,
+    /// Bytes.
+    pub alignment: u64,
+    /// `LINEAR` or `NON_LINEAR`.
+    pub kind: u32,
+}
+
 /// What a plan says beside the offsets.
 #[repr(C)]
 #[derive(Drop)]

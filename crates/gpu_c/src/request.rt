@@ -2,9 +2,9 @@
 
 ghost use Rattle.std.specs.Prelude.{◌≡◌, ◌≢◌, ◌<◌, ◌⊎◌, Some, IfSome, IfNone, MatchOption, IsTrue, IsUtf8};
 ghost use Rattle.std.specs.Int.{is_power_of_two};
-ghost use Rattle.gpu_c.specs.Request.{linear, non_linear, IsServed, kind_named};
+ghost use Rattle.gpu_c.specs.Request.{linear, non_linear, IsServed, kind_named, location_named};
 
-use gpu_values::AllocationType;
+use gpu_values::{AllocationType, MemoryLocation};
 
 /// Buffers and linear images.
 pub const LINEAR: u32 = 1;
@@ -51,5 +51,18 @@ pub fn served<'a>(
             Err(_) => None,
             Ok(name) => Some((kind, name)),
         },
+    }
+}
+
+/// The location of that number; `None` where none has it.
+pub fn location_named(location: u32) -> Option<MemoryLocation>
+    ensures { result ≡ location_named location }
+{
+    match location {
+        1 => Some(MemoryLocation::Unknown),
+        2 => Some(MemoryLocation::GpuOnly),
+        3 => Some(MemoryLocation::CpuToGpu),
+        4 => Some(MemoryLocation::GpuToCpu),
+        _ => None,
     }
 }

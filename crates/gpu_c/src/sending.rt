@@ -4,6 +4,7 @@
 ghost use Rattle.std.specs.Prelude.{◌≡◌};
 
 use crate::allocator_handle::AllocatorHandle;
+use crate::heaps_handle::HeapsHandle;
 use crate::memory_type_handle::MemoryTypeHandle;
 use crate::ring_handle::RingHandle;
 use crate::virtual_block_handle::VirtualBlockHandle;
@@ -41,4 +42,11 @@ pub fn sent_ring(ring: RingHandle) -> RingHandle
     ensures { result ≡ ring }
 {
     sent(ring)
+}
+
+/// A handle of an allocator of DirectX 12's memory may.
+pub fn sent_heaps(heaps: HeapsHandle) -> HeapsHandle
+    ensures { result ≡ heaps }
+{
+    sent(heaps)
 }

@@ -20,11 +20,20 @@ pub const NO_MEMORY_TYPE: u32 = 3;
 /// A size of 0, an alignment or a page size that isn't a power of two, an unknown kind, or a name that isn't UTF-8.
 pub const INVALID: u32 = 4;
 
-/// The page size of a device isn't a power of two.
+/// The page size of a device isn't a power of two, or its resource heap tier is 0.
 pub const INVALID_DEVICE: u32 = 5;
 
-/// No live piece is the one that was named.
+/// No live piece, or no record of a committed resource, is the one that was named.
 pub const NOT_LIVE: u32 = 6;
+
+/// A resource begins in a barrier layout, and the device is no `ID3D12Device10`.
+pub const LAYOUT_NEEDS_DEVICE10: u32 = 7;
+
+/// A resource has castable formats, and begins in a state.
+pub const FORMATS_NEED_LAYOUT: u32 = 8;
+
+/// A resource has castable formats, and the device is no `ID3D12Device12`.
+pub const FORMATS_NEED_DEVICE12: u32 = 9;
 
 /// The host refused memory.
 pub const HOST_OUT_OF_MEMORY: u32 = 10;

@@ -1,4 +1,4 @@
--- What is read of an allocator: a leak by its number.
+-- What is read of memory types: a leak by its number.
 use Rattle.std.proofs.Common.{◌≡◌, ◌∙◌, refl, sym, ℕ, List, Option, Some, None}
 use Rattle.std.specs.List.{slice_get}
 use Rattle.std.specs.Option.{option_map}

@@ -1,20 +1,19 @@
--- What is read of an allocator behind a handle.
+-- What is read of memory types, whatever their blocks are known by.
 use Rattle.std.specs.Prelude.{◌≡◌, ℕ, List, [], length, Option, Some, None}
 use Rattle.std.specs.Option.{is_some, unwrap_or}
 use Rattle.gpu_block_pieces.specs.Leak.{LeakOf, leak_text}
 use Rattle.gpu_core.specs.TypeReport.{counted_with, nothing_counted}
 use Rattle.gpu_core.specs.TypeState.{capacity_of, shared_count}
-use Rattle.gpu_core.specs.Blocks.{slots_at}
-use Rattle.gpu_core.specs.Budgets.{budget_at}
-use Rattle.gpu_c.specs.Allocator.{State}
+use Rattle.gpu_core.specs.Blocks.{Slots, slots_at}
+use Rattle.gpu_core.specs.Budgets.{Budgets, budget_at}
 use Rattle.gpu_c.specs.Visit.{copied_into}
 use Rattle.gpu_c.specs.declared.allocator_values.TypeStatistics.{TypeStatistics}
 
 -- what is counted of a memory type, and of all its blocks together
-abbrev pub type_counts : State → (t : ℕ) → TypeStatistics
-type_counts s t =
-    let slots = slots_at s.requests.slots t in
-    let budget = budget_at s.requests.budgets t in
+abbrev pub type_counts : {H : Type 0} → Slots H → Budgets → (t : ℕ) → TypeStatistics
+type_counts all budgets t =
+    let slots = slots_at all t in
+    let budget = budget_at budgets t in
     let counted = counted_with nothing_counted slots in
     record {
       capacity = capacity_of slots;

@@ -1,0 +1,297 @@
+//! What lies behind a handle of an allocator of DirectX 12's memory: the machine of gpu_machine. Each call tests what C passes, and says in
+//! C's words what the machine answers.
+
+ghost use Rattle.std.specs.Prelude.{◌≡◌, ◌≢◌, ◌≤◌, ◌↔◌, [], ◌∷◌, length, IfSome, Some, None, IsSome, IsSomeAnd, IsTrue, IsUtf8, Ok};
+ghost use Rattle.gpu_d3d12.specs.Committed.{statistics_at};
+ghost use Rattle.gpu_pool.specs.Idle.{SetsBudgetIdle};
+ghost use Rattle.gpu_c.specs.Status as status;
+ghost use Rattle.gpu_c.specs.Status.{IsOneOf};
+ghost use Rattle.gpu_c.specs.MemoryType.{number_if};
+ghost use Rattle.gpu_c.specs.Heaps.{tier_named, IsFresh, AreNamed, IsAsked, IsBegun, IsDenied, IsGranted, IsDeclined, IsLive, IsFreed, IsRenamed, IsCommittedBegun, IsCommittedDenied, IsMade, IsNotMade, IsForgotten, HasNoRecord, committed_counts};
+ghost use Rattle.gpu_c.specs.declared.status.TheConstants.{OK, OUT_OF_MEMORY, FAILED_TO_MAP, NO_MEMORY_TYPE, INVALID, INVALID_DEVICE, NOT_LIVE, HOST_OUT_OF_MEMORY, BUDGET_EXCEEDED, DRIVER_REFUSED, NO_SUCH_TYPE, AWAITS_ANSWER, AWAITS_NO_ANSWER};
+
+use crate::heaps_answer::{
+    allocated_told, code_told, committed_counts, committed_named, committed_told, heap_told,
+    named_piece, progress_told, refused_told,
+};
+use crate::heaps_request::{category_named, described, sizes_of};
+use crate::heaps_values::{
+    HeapsCommitted, HeapsCommittedCounts, HeapsPiece, HeapsProgress, HeapsRequest, HeapsSettings,
+};
+use crate::memory_type::number_if;
+use crate::memory_type_values::MemoryBlock;
+use crate::refusal::refusal_status;
+use crate::request::location_named;
+use crate::status::{
+    AWAITS_ANSWER, AWAITS_NO_ANSWER, HOST_OUT_OF_MEMORY, INVALID, NO_SUCH_TYPE, NOT_LIVE, OK,
+};
+use gpu_device::d3d12::{ID3D12Heap, ID3D12Resource, ResourceHeapTier};
+use gpu_machine::d3d12::Machine;
+use std::alloc::Global;
+
+/// A machine over the memory types of that tier; `None` where the host refuses memory.
+pub fn fresh(alloc: Global, tier: ResourceHeapTier, settings: &HeapsSettings) -> Option<Machine>
+    requires { tier_named settings.now.heap_tier ≡ Some tier }
+    ensures { IfSome result (IsFresh settings.now) }
+{
+    match Machine::new(alloc, sizes_of(settings), tier) {
+        Err(_) => None,
+        Ok(machine) => Some(machine),
+    }
+}
+
+/// Begins a request: it leads to a piece or to a question.
+pub fn begin(
+    machine: &mut Machine,
+    request: &HeapsRequest,
+    name: &[u8],
+    progress: &mut HeapsProgress,
+) -> u32
+    ensures begun { result ≡ status.ok → IsBegun machine.old request.now name.now progress.new
+        machine.new }
+    ensures awaits_answer { (result ≡ status.awaits_answer) ↔ IsSome machine.old.requests.awaited }
+    ensures invalid { (result ≡ status.invalid)
+        ↔ (machine.old.requests.awaited ≡ None) × (IsAsked request.now name.now → ⊥) }
+    ensures denied { result ≢ status.ok → result ≢ status.awaits_answer → result ≢ status.invalid
+        → IsDenied machine.old request.now name.now result }
+    ensures statuses { IsOneOf result (status.ok ∷ status.awaits_answer ∷ status.invalid
+        ∷ status.out_of_memory ∷ status.host_out_of_memory ∷ status.budget_exceeded ∷ []) }
+    ensures refused { result ≢ status.ok
+        → (machine.new ≡ machine.old) × (progress.new ≡ progress.old) }
+{
+    if machine.awaits_answer() {
+        return AWAITS_ANSWER;
+    }
+    match described(request, name) {
+        None => INVALID,
+        Some(desc) => match machine.begin(&desc) {
+            Err(error) => refusal_status(&error),
+            Ok(begun) => {
+                *progress = progress_told(&begun);
+                OK
+            }
+        },
+    }
+}
+
+/// The device made the heap that was asked for.
+pub fn granted(machine: &mut Machine, heap: u64, piece: &mut HeapsPiece) -> u32
+    ensures granted { result ≡ status.ok → IsGranted machine.old heap piece.new machine.new }
+    ensures awaits_no_answer { (result ≡ status.awaits_no_answer) ↔ (machine.old.requests.awaited ≡ None) }
+    ensures statuses { IsOneOf result (status.ok ∷ status.awaits_no_answer ∷ []) }
+    ensures refused { result ≢ status.ok → (machine.new ≡ machine.old) × (piece.new ≡ piece.old) }
+{
+    match machine.granted(ID3D12Heap(heap)) {
+        Err(_) => AWAITS_NO_ANSWER,
+        Ok(given) => {
+            *piece = allocated_told(&given);
+            OK
+        }
+    }
+}
+
+/// The device made no heap, with this code.
+pub fn refused(machine: &mut Machine, code: i32, progress: &mut HeapsProgress) -> u32
+    ensures declined { result ≡ status.ok → IsDeclined machine.old code progress.new machine.new }
+    ensures awaits_no_answer { (result ≡ status.awaits_no_answer) ↔ (machine.old.requests.awaited ≡ None) }
+    ensures statuses { IsOneOf result (status.ok ∷ status.awaits_no_answer ∷ []) }
+    ensures refused { result ≢ status.ok
+        → (machine.new ≡ machine.old) × (progress.new ≡ progress.old) }
+{
+    if machine.awaits_answer() {
+        *progress = refused_told(&machine.refused(code_told(code)));
+        OK
+    } else {
+        AWAITS_NO_ANSWER
+    }
+}
+
+/// Frees a piece, and tells which heap goes back to the device, if one does.
+pub fn free(machine: &mut Machine, piece: &HeapsPiece, back: &mut MemoryBlock) -> u32
+    ensures freed { result ≡ status.ok → IsFreed machine.old piece.now back.new machine.new }
+    ensures awaits_answer { (result ≡ status.awaits_answer) ↔ IsSome machine.old.requests.awaited }
+    ensures not_live { (result ≡ status.not_live)
+        ↔ (machine.old.requests.awaited ≡ None) × (IsLive machine.old piece.now → ⊥) }
+    ensures statuses { IsOneOf result (status.ok ∷ status.awaits_answer ∷ status.not_live ∷ []) }
+    ensures refused { result ≢ status.ok → (machine.new ≡ machine.old) × (back.new ≡ back.old) }
+{
+    if machine.awaits_answer() {
+        return AWAITS_ANSWER;
+    }
+    match named_piece(piece) {
+        None => NOT_LIVE,
+        Some(named) => match machine.free(piece.memory_type, &named) {
+            Err(_) => NOT_LIVE,
+            Ok(went) => {
+                *back = heap_told(went);
+                OK
+            }
+        },
+    }
+}
+
+/// Renames a piece.
+pub fn rename(machine: &mut Machine, piece: &HeapsPiece, name: &[u8]) -> u32
+    ensures renamed { result ≡ status.ok
+        → IsUtf8 name.now × IsRenamed machine.old piece.now name.now machine.new }
+    ensures awaits_answer { (result ≡ status.awaits_answer) ↔ IsSome machine.old.requests.awaited }
+    ensures invalid { (result ≡ status.invalid)
+        ↔ (machine.old.requests.awaited ≡ None) × (IsUtf8 name.now → ⊥) }
+    ensures not_live { (result ≡ status.not_live)
+        ↔ (machine.old.requests.awaited ≡ None) × IsUtf8 name.now × (IsLive machine.old piece.now → ⊥) }
+    ensures host_out_of_memory { result ≡ status.host_out_of_memory
+        → (machine.old.requests.awaited ≡ None) × IsUtf8 name.now × IsLive machine.old piece.now }
+    ensures statuses { IsOneOf result (status.ok ∷ status.awaits_answer ∷ status.invalid
+        ∷ status.not_live ∷ status.host_out_of_memory ∷ []) }
+    ensures refused { result ≢ status.ok → machine.new ≡ machine.old }
+{
+    if machine.awaits_answer() {
+        return AWAITS_ANSWER;
+    }
+    let Ok(name) = str::from_utf8(name) else {
+        return INVALID;
+    };
+    match named_piece(piece) {
+        None => NOT_LIVE,
+        Some(named) => {
+            if !machine.is_live(piece.memory_type, &named) {
+                return NOT_LIVE;
+            }
+            match machine.rename(piece.memory_type, &named, name) {
+                Err(_) => HOST_OUT_OF_MEMORY,
+                Ok(_) => OK,
+            }
+        }
+    }
+}
+
+/// Whether a piece is live.
+pub fn is_live(machine: &Machine, piece: &HeapsPiece) -> bool
+    ensures { IsTrue result ↔ IsLive machine.now piece.now }
+{
+    match named_piece(piece) {
+        None => false,
+        Some(named) => machine.is_live(piece.memory_type, &named),
+    }
+}
+
+/// Bounds the sum of the sizes of a memory type's blocks, or takes the bound away.
+pub fn set_budget(machine: &mut Machine, memory_type: usize, has_budget: bool, bytes: u64) -> u32
+    ensures bounded { result ≡ status.ok
+        → (machine.old.requests.awaited ≡ None) × SetsBudgetIdle machine.old.requests memory_type
+        (number_if has_budget bytes) (Ok tt) machine.new.requests
+        × (machine.new ≡ record machine.old { requests = machine.new.requests }) }
+    ensures awaits_answer { (result ≡ status.awaits_answer) ↔ IsSome machine.old.requests.awaited }
+    ensures no_such_type { (result ≡ status.no_such_type)
+        ↔ (machine.old.requests.awaited ≡ None) × (length machine.old.requests.budgets ≤ memory_type) }
+    ensures statuses { IsOneOf result (status.ok ∷ status.awaits_answer ∷ status.no_such_type
+        ∷ []) }
+    ensures refused { result ≢ status.ok → machine.new ≡ machine.old }
+{
+    if machine.awaits_answer() {
+        return AWAITS_ANSWER;
+    }
+    match machine.set_budget(memory_type, number_if(has_budget, bytes)) {
+        Err(_) => NO_SUCH_TYPE,
+        Ok(_) => OK,
+    }
+}
+
+/// Makes room for the record of a committed resource, which the device is to be asked for.
+pub fn begin_committed(machine: &mut Machine, size: u64, location: u32, category: u32) -> u32
+    ensures begun { result ≡ status.ok
+        → IsCommittedBegun machine.old size location category machine.new }
+    ensures awaits_answer { (result ≡ status.awaits_answer) ↔ IsSome machine.old.committed.awaited }
+    ensures invalid { (result ≡ status.invalid)
+        ↔ (machine.old.committed.awaited ≡ None) × (AreNamed location category → ⊥) }
+    ensures denied { result ≢ status.ok → result ≢ status.awaits_answer → result ≢ status.invalid
+        → IsCommittedDenied machine.old size location category result }
+    ensures statuses { IsOneOf result (status.ok ∷ status.awaits_answer ∷ status.invalid
+        ∷ status.out_of_memory ∷ status.host_out_of_memory ∷ []) }
+    ensures refused { result ≢ status.ok → machine.new ≡ machine.old }
+{
+    if machine.awaits_resource() {
+        return AWAITS_ANSWER;
+    }
+    match location_named(location) {
+        None => INVALID,
+        Some(place) => match category_named(category) {
+            None => INVALID,
+            Some(kind) => match machine.begin_committed(size, place, kind) {
+                Err(error) => refusal_status(&error),
+                Ok(_) => OK,
+            },
+        },
+    }
+}
+
+/// The device made the committed resource that was asked for.
+pub fn made(machine: &mut Machine, resource: u64, committed: &mut HeapsCommitted) -> u32
+    ensures made { result ≡ status.ok → IsMade machine.old resource committed.new machine.new }
+    ensures awaits_no_answer { (result ≡ status.awaits_no_answer) ↔ (machine.old.committed.awaited ≡ None) }
+    ensures statuses { IsOneOf result (status.ok ∷ status.awaits_no_answer ∷ []) }
+    ensures refused { result ≢ status.ok
+        → (machine.new ≡ machine.old) × (committed.new ≡ committed.old) }
+{
+    match machine.made(ID3D12Resource(resource)) {
+        Err(_) => AWAITS_NO_ANSWER,
+        Ok(recorded) => {
+            *committed = committed_told(&recorded);
+            OK
+        }
+    }
+}
+
+/// The device made no committed resource.
+pub fn not_made(machine: &mut Machine) -> u32
+    ensures not_made { result ≡ status.ok → IsNotMade machine.old machine.new }
+    ensures awaits_no_answer { (result ≡ status.awaits_no_answer) ↔ (machine.old.committed.awaited ≡ None) }
+    ensures statuses { IsOneOf result (status.ok ∷ status.awaits_no_answer ∷ []) }
+    ensures refused { result ≢ status.ok → machine.new ≡ machine.old }
+{
+    match machine.not_made() {
+        Err(_) => AWAITS_NO_ANSWER,
+        Ok(_) => OK,
+    }
+}
+
+/// Forgets a committed resource, which its owner releases.
+pub fn forget_committed(machine: &mut Machine, committed: &HeapsCommitted) -> u32
+    ensures forgotten { result ≡ status.ok → IsForgotten machine.old committed.now machine.new }
+    ensures awaits_answer { (result ≡ status.awaits_answer) ↔ IsSome machine.old.committed.awaited }
+    ensures not_live { (result ≡ status.not_live)
+        ↔ (machine.old.committed.awaited ≡ None) × HasNoRecord machine.old committed.now }
+    ensures statuses { IsOneOf result (status.ok ∷ status.awaits_answer ∷ status.not_live ∷ []) }
+    ensures refused { result ≢ status.ok → machine.new ≡ machine.old }
+{
+    if machine.awaits_resource() {
+        return AWAITS_ANSWER;
+    }
+    match machine.forget_committed(committed_named(committed)) {
+        Err(_) => NOT_LIVE,
+        Ok(_) => OK,
+    }
+}
+
+/// What is counted of a memory type's committed resources. `NO_SUCH_TYPE` where it isn't there.
+pub fn committed_of(
+    machine: &Machine,
+    memory_type: usize,
+    statistics: &mut HeapsCommittedCounts,
+) -> u32
+    ensures reported { result ≡ status.ok
+        → IsSomeAnd (statistics_at machine.now.committed.records memory_type)
+        (λ c. statistics.new ≡ committed_counts c) }
+    ensures no_such_type { (result ≡ status.no_such_type)
+        ↔ (length machine.now.committed.records ≤ memory_type) }
+    ensures statuses { IsOneOf result (status.ok ∷ status.no_such_type ∷ []) }
+    ensures refused { result ≢ status.ok → statistics.new ≡ statistics.old }
+{
+    match machine.committed(memory_type) {
+        None => NO_SUCH_TYPE,
+        Some(counted) => {
+            *statistics = committed_counts(&counted);
+            OK
+        }
+    }
+}
