@@ -646,6 +646,88 @@ class BlockTrace:
         return (b"".join(self.block.rows()) + b"total %d capacity %d" % (self.block.allocated(), self.block.size)).decode()
 
 
+class Planned:
+    """A resource of a plan, alive from its first pass to its last."""
+
+    def __init__(self, key, size, alignment, kind, first, last, name):
+        self.key, self.kind, self.name = key, KINDS[kind], name
+        self.size, self.alignment, self.first, self.last = int(size), int(alignment), int(first), int(last)
+
+    def is_invalid(self):
+        return self.size == 0 or not is_power_of_two(self.alignment) or self.first > self.last
+
+    def is_alive(self, at):
+        return self.first <= at <= self.last
+
+    def meets(self, offset, other, place, page):
+        """Whether at the offset it would share a byte with another at its place, or a page where their kinds differ."""
+        unit = page if self.kind != other.kind else 1
+        last, other_last = (offset + self.size - 1) // unit, (place + other.size - 1) // unit
+        return offset // unit <= other_last and place // unit <= last
+
+
+class PlanTrace:
+    """Resources that share one heap, by docs/RINGS_AND_PLANS.md."""
+
+    # what goes first in each order, by what is least
+    ORDERS = {
+        "size": lambda plan, it: [-it.size],
+        "area": lambda plan, it: [-it.size * (it.last - it.first + 1)],
+        "alignment": lambda plan, it: [-it.alignment, -it.size],
+        "magnitude": lambda plan, it: [-it.size.bit_length(), it.first - it.last, -it.size],
+        "breadth": lambda plan, it: [*plan.busiest(it), -it.size],
+    }
+
+    def __init__(self, page):
+        self.page, self.resources = int(page), []
+
+    def bytes_alive(self, at):
+        return sum(it.size for it in self.resources if it.is_alive(at))
+
+    def busiest(self, resource):
+        """Of a life's passes the first with the most bytes alive, behind those bytes, negated. Only where a life begins there are more."""
+        starts = [it.first for it in self.resources if resource.is_alive(it.first)]
+        return min((-self.bytes_alive(at), at) for at in starts)
+
+    def least_offset(self, resource, placed):
+        """The least free offset is 0, or the first behind another resource or behind the page on which that one ends."""
+        beside = [(it, at) for it, at in placed if it.first <= resource.last and resource.first <= it.last]
+        ends = [0, *(at + it.size for it, at in beside), *(up_to(at + it.size, self.page) for it, at in beside)]
+        tried = sorted(up_to(end, resource.alignment) for end in ends)
+        return next(o for o in tried if not any(resource.meets(o, it, at, self.page) for it, at in beside))
+
+    def in_order(self, order):
+        """The heap of an order, and each resource's offset."""
+        placed = []
+        for it in sorted(self.resources, key=lambda it: self.ORDERS[order](self, it)):
+            placed.append((it, self.least_offset(it, placed)))
+        return max((at + it.size for it, at in placed), default=0), dict(placed)
+
+    # ---- the commands
+
+    def resource(self, key, *words):
+        if any(it.key == key for it in self.resources):
+            return "busy"
+        one = Planned(key, *words)
+        if one.is_invalid():
+            return "error E4"
+        self.resources.append(one)
+        return "ok"
+
+    def solve(self):
+        plans = {order: self.in_order(order) for order in self.ORDERS}
+        order = min(plans, key=lambda it: plans[it][0])
+        heap, offsets = plans[order]
+        if heap > MAX:
+            return "error E1"
+        rows = []
+        for it in self.resources:
+            reused = [other.key for other in self.resources if other.last < it.first and it.meets(offsets[it], other, offsets[other], 1)]
+            rows.append(" ".join(["place", it.name, str(offsets[it]), str(it.size), "reuses", str(len(reused)), *reused]))
+        peak = max((self.bytes_alive(it.first) for it in self.resources), default=0)
+        return "\n".join([*rows, f"heap {heap} peak {peak} order {order}"])
+
+
 # by the line that begins a trace of the sort
 SORTS = {"metal": Metal, "d3d12": D3D12}
 
@@ -657,6 +739,10 @@ def served(trace):
         number, words = lines.pop(0)
         machine = BlockTrace(words)
         yield number, f"block {machine.block.size}", machine
+    elif lines and lines[0][1][0] == "plan":
+        number, words = lines.pop(0)
+        machine = PlanTrace(words[1])
+        yield number, "ok", machine
     else:
         sort = SORTS.get(" ".join(lines[0][1])) if lines else None
         machine, lines = (sort or Device)(), lines[sort is not None:]

@@ -32,6 +32,26 @@ def block_trace(seed, commands):
     return "\n".join([*lines, "report", ""]).encode()
 
 
+def plan_trace(seed, commands):
+    """A fifth of the commands, since each `solve` is long. Half of the passes are few; sometimes no heap is large enough at the end."""
+    rng = random.Random(seed)
+    page, passes = rng.choice([1, 1, 64, 1024]), rng.choice([4, 30, 30, 1 << 64])
+    lines, keys = [f"plan {page}"], [0]
+    for key in range(commands // 5):
+        first = rng.randrange(passes)
+        last = min(first + rng.choice([0, 1, 3, passes]), passes - 1) if rng.random() < 0.97 else rng.randrange(passes)
+        if rng.random() < 0.06:
+            lines.append("solve")
+        keys.append(key)
+        asked = min(size(rng, 4 * MB), 600 * MB)
+        lines.append(f"resource {key if rng.random() < 0.95 else rng.choice(keys)} {asked} {alignment(rng, page)} "
+                     f"{rng.choice(['linear', 'nonlinear'])} {first} {last} resource-{key}")
+    lines.append("solve")
+    if rng.random() < 0.3:
+        lines += [f"resource {key} {rng.choice([1 << 62, 1 << 63])} 1 linear 0 {rng.randrange(passes)} large" for key in range(1000, 1003)] + ["solve"]
+    return "\n".join([*lines, ""]).encode()
+
+
 class AllocatorTrace:
     """The configuration of an allocator and its device with refusals, and a list of commands. `live` is what may be given back."""
 

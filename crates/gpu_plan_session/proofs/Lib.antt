@@ -1,0 +1,3 @@
+pub mod PlanSorts
+mod Placing
+mod PlanReading
