@@ -1,6 +1,6 @@
 /* Pilhangko's Vulkan binding (include/pilhangko_vulkan.h): compile it with the program, as C11 or as C++11. It asks the driver what the
  * allocator wants to know; the allocator decides all else, and keeps what it decided. */
-#include "pilhangko_vulkan.h"
+#include "pilhangko_vulkan_resource.h"
 #include <inttypes.h>
 #include <stdio.h>
 #include <stdlib.h>
@@ -86,12 +86,9 @@ struct capture {
 struct binding {
     pilhangko_allocator allocator;
     uint64_t number; /* no other binding of the process has it, nor had */
+    pilhangko_vulkan_device over; /* its two pointers lead to the next two fields */
     pilhangko_vulkan_functions functions;
     VkAllocationCallbacks callbacks;
-    bool has_callbacks;
-    VkPhysicalDevice physical_device;
-    VkDevice device;
-    uint32_t api_version;
     bool memory_budget, device_address;
     bool is_locked_outside; /* whether the caller sees to it that one call is made at a time */
     mutex lock;             /* of the allocator, the live allocations and the capture */
@@ -115,22 +112,6 @@ static struct binding *enter(const struct binding *binding) {
 
 static void leave(struct binding *b) {
     if (!b->is_locked_outside) unlock_mutex(&b->lock);
-}
-
-static const VkAllocationCallbacks *callbacks_of(const struct binding *b) {
-    return b->has_callbacks ? &b->callbacks : NULL;
-}
-
-static pilhangko_vulkan_result result_of(pilhangko_status status, VkResult driver) {
-    pilhangko_vulkan_result result;
-    result.status = status;
-    result.driver = status == PILHANGKO_OK ? VK_SUCCESS : driver;
-    return result;
-}
-
-/* A result in which the driver has no part. */
-static pilhangko_vulkan_result undriven(pilhangko_status status) {
-    return result_of(status, VK_SUCCESS);
 }
 
 static bool is_power_of_two(VkDeviceSize n) {
@@ -396,7 +377,7 @@ static VkResult ask_memory(const struct binding *b, const pilhangko_allocator_re
     info.sType = VK_STRUCTURE_TYPE_MEMORY_ALLOCATE_INFO;
     info.allocationSize = question->size;
     info.memoryTypeIndex = (uint32_t)question->memory_type;
-    if (request->scheme != PILHANGKO_SCHEME_MANAGED && b->api_version >= VK_API_VERSION_1_1) {
+    if (request->scheme != PILHANGKO_SCHEME_MANAGED && b->over.api_version >= VK_API_VERSION_1_1) {
         memset(&alone, 0, sizeof alone);
         alone.sType = VK_STRUCTURE_TYPE_MEMORY_DEDICATED_ALLOCATE_INFO;
         if (request->scheme == PILHANGKO_SCHEME_BUFFER) alone.buffer = (VkBuffer)request->resource;
@@ -411,7 +392,7 @@ static VkResult ask_memory(const struct binding *b, const pilhangko_allocator_re
         info.pNext = &flags;
     }
     *memory = VK_NULL_HANDLE;
-    return b->functions.vkAllocateMemory(b->device, &info, callbacks_of(b), memory);
+    return b->functions.vkAllocateMemory(b->over.device, &info, b->over.allocation_callbacks, memory);
 }
 
 static void note_refusal(struct asked *asked, bool is_null, int32_t code, VkResult driver) {
@@ -433,7 +414,7 @@ static pilhangko_status memory_refused(
 static pilhangko_status mapping_refused(
     struct binding *b, struct asked *asked, VkResult driver, VkDeviceMemory memory, pilhangko_allocator_progress *progress) {
     bool has_code = driver != VK_SUCCESS;
-    b->functions.vkFreeMemory(b->device, memory, callbacks_of(b)); /* unmaps it too, where a null address is a mapping to the driver */
+    b->functions.vkFreeMemory(b->over.device, memory, b->over.allocation_callbacks); /* unmaps it too, where a null address is a mapping to the driver */
     note_refusal(asked, !has_code, driver, driver);
     return pilhangko_allocator_mapping_refused(&b->allocator, has_code, driver, progress);
 }
@@ -448,7 +429,7 @@ static pilhangko_status ask(
     asked->questions++;
     if (driver != VK_SUCCESS || memory == VK_NULL_HANDLE) return memory_refused(b, asked, driver, memory, progress);
     if (question.mapped) {
-        driver = b->functions.vkMapMemory(b->device, memory, 0, VK_WHOLE_SIZE, 0, &mapped);
+        driver = b->functions.vkMapMemory(b->over.device, memory, 0, VK_WHOLE_SIZE, 0, &mapped);
         asked->questions++;
         if (driver != VK_SUCCESS || !mapped) return mapping_refused(b, asked, driver, memory, progress);
     }
@@ -521,8 +502,8 @@ static pilhangko_vulkan_result allocate_alone(
 
 /* Gives memory back to the driver. */
 static void give_back(const struct binding *b, uint64_t memory, bool mapped) {
-    if (mapped) b->functions.vkUnmapMemory(b->device, (VkDeviceMemory)memory);
-    b->functions.vkFreeMemory(b->device, (VkDeviceMemory)memory, callbacks_of(b));
+    if (mapped) b->functions.vkUnmapMemory(b->over.device, (VkDeviceMemory)memory);
+    b->functions.vkFreeMemory(b->over.device, (VkDeviceMemory)memory, b->over.allocation_callbacks);
 }
 
 static pilhangko_vulkan_result allocate(
@@ -649,8 +630,8 @@ static pilhangko_vulkan_result make_visible(const struct binding *b, const struc
     status = block_of(b, &bytes->live, &block);
     if (status != PILHANGKO_OK) return undriven(status);
     range = whole_atoms(&block, b->atom, bytes->live.piece.offset + bytes->offset, bytes->size);
-    driver = invalidates ? b->functions.vkInvalidateMappedMemoryRanges(b->device, 1, &range)
-                         : b->functions.vkFlushMappedMemoryRanges(b->device, 1, &range);
+    driver = invalidates ? b->functions.vkInvalidateMappedMemoryRanges(b->over.device, 1, &range)
+                         : b->functions.vkFlushMappedMemoryRanges(b->over.device, 1, &range);
     return driver == VK_SUCCESS ? undriven(PILHANGKO_OK) : result_of(PILHANGKO_VULKAN_CALL_FAILED, driver);
 }
 
@@ -764,66 +745,11 @@ pilhangko_status PILHANGKO_CALL pilhangko_vulkan_read_device(const pilhangko_vul
     if (!vulkan || !read) return PILHANGKO_NULL_POINTER;
     b = binding_of(vulkan);
     if (!b) return PILHANGKO_NO_HANDLE;
-    read->physical_device = b->physical_device;
-    read->device = b->device;
-    read->functions = &b->functions;
-    read->allocation_callbacks = callbacks_of(b);
-    read->api_version = b->api_version;
+    *read = b->over;
     return PILHANGKO_OK;
 }
 
 /* ---- buffers and images ---- */
-
-/* A buffer or an image: the other one is null. */
-struct resource {
-    bool is_image;
-    VkBuffer buffer;
-    VkImage image;
-};
-
-static void destroy_resource(const struct binding *b, const struct resource *r) {
-    if (r->is_image) b->functions.vkDestroyImage(b->device, r->image, callbacks_of(b));
-    else b->functions.vkDestroyBuffer(b->device, r->buffer, callbacks_of(b));
-}
-
-static VkResult bind_resource(const struct binding *b, const struct resource *r, const pilhangko_vulkan_allocation *a) {
-    return r->is_image ? b->functions.vkBindImageMemory(b->device, r->image, a->memory, a->offset)
-                       : b->functions.vkBindBufferMemory(b->device, r->buffer, a->memory, a->offset);
-}
-
-/* What the driver needs for it, before Vulkan 1.1. */
-static void plain_requirements(const struct binding *b, const struct resource *r, VkMemoryRequirements *needs) {
-    if (r->is_image) b->functions.vkGetImageMemoryRequirements(b->device, r->image, needs);
-    else b->functions.vkGetBufferMemoryRequirements(b->device, r->buffer, needs);
-}
-
-/* What the driver needs for it, and whether it requires or prefers memory for it alone. */
-static VkMemoryDedicatedRequirements requirements_of(const struct binding *b, const struct resource *r, VkMemoryRequirements *needs) {
-    VkMemoryDedicatedRequirements alone;
-    VkMemoryRequirements2 told;
-    memset(&alone, 0, sizeof alone);
-    alone.sType = VK_STRUCTURE_TYPE_MEMORY_DEDICATED_REQUIREMENTS;
-    memset(&told, 0, sizeof told);
-    told.sType = VK_STRUCTURE_TYPE_MEMORY_REQUIREMENTS_2;
-    told.pNext = &alone;
-    if (b->api_version >= VK_API_VERSION_1_1 && r->is_image && b->functions.vkGetImageMemoryRequirements2) {
-        VkImageMemoryRequirementsInfo2 info;
-        memset(&info, 0, sizeof info);
-        info.sType = VK_STRUCTURE_TYPE_IMAGE_MEMORY_REQUIREMENTS_INFO_2;
-        info.image = r->image;
-        b->functions.vkGetImageMemoryRequirements2(b->device, &info, &told);
-    } else if (b->api_version >= VK_API_VERSION_1_1 && !r->is_image && b->functions.vkGetBufferMemoryRequirements2) {
-        VkBufferMemoryRequirementsInfo2 info;
-        memset(&info, 0, sizeof info);
-        info.sType = VK_STRUCTURE_TYPE_BUFFER_MEMORY_REQUIREMENTS_INFO_2;
-        info.buffer = r->buffer;
-        b->functions.vkGetBufferMemoryRequirements2(b->device, &info, &told);
-    } else {
-        plain_requirements(b, r, &told.memoryRequirements);
-    }
-    *needs = told.memoryRequirements;
-    return alone;
-}
 
 /* Allocates memory for a resource: its own where that is asked for or the driver requires it, and where the driver prefers it and there is
  * such memory. */
@@ -834,11 +760,11 @@ static pilhangko_vulkan_result allocate_for(struct binding *b, const struct reso
     VkMemoryDedicatedRequirements alone;
     bool may_share;
     memset(&request, 0, sizeof request);
-    alone = requirements_of(b, r, &request.requirements);
+    alone = requirements_of(&b->over, r, &request.requirements);
     may_share = !placement->dedicated && !alone.requiresDedicatedAllocation;
     request.location = placement->location;
     request.kind = kind;
-    request.scheme = r->is_image ? PILHANGKO_SCHEME_IMAGE : PILHANGKO_SCHEME_BUFFER;
+    request.scheme = is_image(r) ? PILHANGKO_SCHEME_IMAGE : PILHANGKO_SCHEME_BUFFER;
     if (may_share && !alone.prefersDedicatedAllocation) request.scheme = PILHANGKO_SCHEME_MANAGED;
     request.buffer = r->buffer;
     request.image = r->image;
@@ -855,17 +781,16 @@ static pilhangko_vulkan_result allocate_for(struct binding *b, const struct reso
 static pilhangko_vulkan_result place(struct binding *b, const struct resource *r, pilhangko_kind kind,
     const pilhangko_vulkan_placement *placement, pilhangko_vulkan_allocation *allocation) {
     pilhangko_vulkan_allocation made;
-    const pilhangko_vulkan_result result = allocate_for(b, r, kind, placement, &made);
-    VkResult driver;
+    pilhangko_vulkan_result result = allocate_for(b, r, kind, placement, &made);
     if (result.status != PILHANGKO_OK) {
-        destroy_resource(b, r);
+        destroy_resource(&b->over, r);
         return result;
     }
-    driver = bind_resource(b, r, &made);
-    if (driver != VK_SUCCESS) {
-        destroy_resource(b, r);
+    result = bind_resource(&b->over, r, made.memory, made.offset);
+    if (result.status != PILHANGKO_OK) {
+        destroy_resource(&b->over, r);
         free_allocation(b, &made);
-        return result_of(PILHANGKO_VULKAN_CALL_FAILED, driver);
+        return result;
     }
     *allocation = made;
     return result;
@@ -873,16 +798,15 @@ static pilhangko_vulkan_result place(struct binding *b, const struct resource *r
 
 pilhangko_vulkan_result PILHANGKO_CALL pilhangko_vulkan_create_buffer(pilhangko_vulkan *vulkan, const VkBufferCreateInfo *info,
     const pilhangko_vulkan_placement *placement, VkBuffer *buffer, pilhangko_vulkan_allocation *allocation) {
-    struct resource made = {false, VK_NULL_HANDLE, VK_NULL_HANDLE};
+    struct resource made = {VK_NULL_HANDLE, VK_NULL_HANDLE};
     struct binding *b;
     pilhangko_vulkan_result result;
-    VkResult driver;
     if (!vulkan || !info || !placement || !buffer || !allocation) return undriven(PILHANGKO_NULL_POINTER);
     b = binding_of(vulkan);
     if (!b) return undriven(PILHANGKO_NO_HANDLE);
-    if (info->flags & VK_BUFFER_CREATE_SPARSE_BINDING_BIT) return undriven(PILHANGKO_INVALID);
-    driver = b->functions.vkCreateBuffer(b->device, info, callbacks_of(b), &made.buffer);
-    if (driver != VK_SUCCESS || made.buffer == VK_NULL_HANDLE) return result_of(PILHANGKO_VULKAN_CALL_FAILED, driver);
+    if (!is_bindable_buffer(info)) return undriven(PILHANGKO_INVALID);
+    result = make_buffer(&b->over, info, &made);
+    if (result.status != PILHANGKO_OK) return result;
     result = place(b, &made, PILHANGKO_KIND_LINEAR, placement, allocation);
     if (result.status == PILHANGKO_OK) *buffer = made.buffer;
     return result;
@@ -890,18 +814,16 @@ pilhangko_vulkan_result PILHANGKO_CALL pilhangko_vulkan_create_buffer(pilhangko_
 
 pilhangko_vulkan_result PILHANGKO_CALL pilhangko_vulkan_create_image(pilhangko_vulkan *vulkan, const VkImageCreateInfo *info,
     const pilhangko_vulkan_placement *placement, VkImage *image, pilhangko_vulkan_allocation *allocation) {
-    struct resource made = {true, VK_NULL_HANDLE, VK_NULL_HANDLE};
+    struct resource made = {VK_NULL_HANDLE, VK_NULL_HANDLE};
     struct binding *b;
     pilhangko_vulkan_result result;
-    VkResult driver;
     if (!vulkan || !info || !placement || !image || !allocation) return undriven(PILHANGKO_NULL_POINTER);
     b = binding_of(vulkan);
     if (!b) return undriven(PILHANGKO_NO_HANDLE);
-    if (info->flags & (VK_IMAGE_CREATE_SPARSE_BINDING_BIT | VK_IMAGE_CREATE_DISJOINT_BIT)) return undriven(PILHANGKO_INVALID);
-    driver = b->functions.vkCreateImage(b->device, info, callbacks_of(b), &made.image);
-    if (driver != VK_SUCCESS || made.image == VK_NULL_HANDLE) return result_of(PILHANGKO_VULKAN_CALL_FAILED, driver);
-    result =
-        place(b, &made, info->tiling == VK_IMAGE_TILING_LINEAR ? PILHANGKO_KIND_LINEAR : PILHANGKO_KIND_NON_LINEAR, placement, allocation);
+    if (!is_bindable_image(info)) return undriven(PILHANGKO_INVALID);
+    result = make_image(&b->over, info, &made);
+    if (result.status != PILHANGKO_OK) return result;
+    result = place(b, &made, kind_of_image(info), placement, allocation);
     if (result.status == PILHANGKO_OK) *image = made.image;
     return result;
 }
@@ -910,13 +832,13 @@ pilhangko_vulkan_result PILHANGKO_CALL pilhangko_vulkan_create_image(pilhangko_v
 static pilhangko_status destroy_placed(struct binding *b, const struct resource *r, const pilhangko_vulkan_allocation *allocation) {
     pilhangko_allocator_piece piece;
     if (!live_piece(b, allocation, &piece)) return PILHANGKO_NOT_LIVE;
-    destroy_resource(b, r);
+    destroy_resource(&b->over, r);
     return free_allocation(b, allocation);
 }
 
 pilhangko_status PILHANGKO_CALL pilhangko_vulkan_destroy_buffer(
     pilhangko_vulkan *vulkan, VkBuffer buffer, const pilhangko_vulkan_allocation *allocation) {
-    struct resource gone = {false, buffer, VK_NULL_HANDLE};
+    struct resource gone = {buffer, VK_NULL_HANDLE};
     if (!vulkan || buffer == VK_NULL_HANDLE || !allocation) return PILHANGKO_NULL_POINTER;
     if (!vulkan->opaque) return PILHANGKO_NO_HANDLE;
     return destroy_placed(binding_of(vulkan), &gone, allocation);
@@ -924,7 +846,7 @@ pilhangko_status PILHANGKO_CALL pilhangko_vulkan_destroy_buffer(
 
 pilhangko_status PILHANGKO_CALL pilhangko_vulkan_destroy_image(
     pilhangko_vulkan *vulkan, VkImage image, const pilhangko_vulkan_allocation *allocation) {
-    struct resource gone = {true, VK_NULL_HANDLE, image};
+    struct resource gone = {VK_NULL_HANDLE, image};
     if (!vulkan || image == VK_NULL_HANDLE || !allocation) return PILHANGKO_NULL_POINTER;
     if (!vulkan->opaque) return PILHANGKO_NO_HANDLE;
     return destroy_placed(binding_of(vulkan), &gone, allocation);
@@ -932,13 +854,21 @@ pilhangko_status PILHANGKO_CALL pilhangko_vulkan_destroy_image(
 
 /* ---- budgets ---- */
 
-/* The sum of the sizes of a memory type's blocks. */
-static VkDeviceSize held_of_type(const struct binding *binding, uint32_t memory_type) {
-    struct binding *b = enter(binding);
+/* The sum of the sizes of a memory type's blocks, between enter and leave. */
+static VkDeviceSize held_of_type(const struct binding *b, uint32_t memory_type) {
     uint64_t bytes = 0;
     const pilhangko_status status = pilhangko_allocator_type_capacity(&b->allocator, memory_type, &bytes);
-    leave(b);
     return status == PILHANGKO_OK ? bytes : 0;
+}
+
+/* The sum of the sizes of a heap's blocks. */
+static VkDeviceSize held_of_heap(const struct binding *binding, uint32_t heap) {
+    struct binding *b = enter(binding);
+    VkDeviceSize bytes = 0;
+    for (uint32_t i = 0; i < b->properties.memoryTypeCount; i++)
+        if (b->properties.memoryTypes[i].heapIndex == heap) bytes += held_of_type(b, i);
+    leave(b);
+    return bytes;
 }
 
 /* What the driver tells of its heaps now. */
@@ -949,7 +879,7 @@ static void read_budgets(const struct binding *b, VkPhysicalDeviceMemoryBudgetPr
     memset(&properties, 0, sizeof properties);
     properties.sType = VK_STRUCTURE_TYPE_PHYSICAL_DEVICE_MEMORY_PROPERTIES_2;
     properties.pNext = budgets;
-    b->functions.vkGetPhysicalDeviceMemoryProperties2(b->physical_device, &properties);
+    b->functions.vkGetPhysicalDeviceMemoryProperties2(b->over.physical_device, &properties);
 }
 
 pilhangko_status PILHANGKO_CALL pilhangko_vulkan_read_heap(const pilhangko_vulkan *vulkan, uint32_t heap, pilhangko_vulkan_heap *read) {
@@ -962,8 +892,7 @@ pilhangko_status PILHANGKO_CALL pilhangko_vulkan_read_heap(const pilhangko_vulka
     memset(read, 0, sizeof *read);
     read->size = b->properties.memoryHeaps[heap].size;
     read->flags = b->properties.memoryHeaps[heap].flags;
-    for (uint32_t i = 0; i < b->properties.memoryTypeCount; i++)
-        if (b->properties.memoryTypes[i].heapIndex == heap) read->held += held_of_type(b, i);
+    read->held = held_of_heap(b, heap);
     read->has_budget = b->memory_budget;
     if (!b->memory_budget) return PILHANGKO_OK;
     read_budgets(b, &budgets);
@@ -972,22 +901,17 @@ pilhangko_status PILHANGKO_CALL pilhangko_vulkan_read_heap(const pilhangko_vulka
     return PILHANGKO_OK;
 }
 
-static pilhangko_status set_budget(struct binding *binding, uint32_t memory_type, bool has_budget, VkDeviceSize bytes) {
-    struct binding *b = enter(binding);
+/* Between enter and leave. */
+static pilhangko_status set_budget(struct binding *b, uint32_t memory_type, bool has_budget, VkDeviceSize bytes) {
     const pilhangko_status status = pilhangko_allocator_set_budget(&b->allocator, memory_type, has_budget, bytes);
     if (status == PILHANGKO_OK) b->capture.has_new_budgets = true;
-    leave(b);
     return status;
 }
 
-pilhangko_status PILHANGKO_CALL pilhangko_vulkan_update_budgets(pilhangko_vulkan *vulkan) {
+/* Sets the bound of each memory type to what its heap still gives, between enter and leave: no block comes or goes meanwhile. */
+static pilhangko_status follow_driver(struct binding *b) {
     VkPhysicalDeviceMemoryBudgetPropertiesEXT budgets;
-    struct binding *b;
     pilhangko_status status = PILHANGKO_OK;
-    if (!vulkan) return PILHANGKO_NULL_POINTER;
-    b = binding_of(vulkan);
-    if (!b) return PILHANGKO_NO_HANDLE;
-    if (!b->memory_budget) return PILHANGKO_VULKAN_NO_BUDGETS;
     read_budgets(b, &budgets);
     for (uint32_t i = 0; i < b->properties.memoryTypeCount && status == PILHANGKO_OK; i++) {
         const uint32_t heap = b->properties.memoryTypes[i].heapIndex;
@@ -998,11 +922,28 @@ pilhangko_status PILHANGKO_CALL pilhangko_vulkan_update_budgets(pilhangko_vulkan
     return status;
 }
 
-pilhangko_status PILHANGKO_CALL pilhangko_vulkan_set_budget(
-    pilhangko_vulkan *vulkan, uint32_t memory_type, bool has_budget, VkDeviceSize bytes) {
+pilhangko_status PILHANGKO_CALL pilhangko_vulkan_update_budgets(pilhangko_vulkan *vulkan) {
+    struct binding *b;
+    pilhangko_status status;
     if (!vulkan) return PILHANGKO_NULL_POINTER;
     if (!vulkan->opaque) return PILHANGKO_NO_HANDLE;
-    return set_budget(binding_of(vulkan), memory_type, has_budget, bytes);
+    if (!binding_of(vulkan)->memory_budget) return PILHANGKO_VULKAN_NO_BUDGETS;
+    b = enter(binding_of(vulkan));
+    status = follow_driver(b);
+    leave(b);
+    return status;
+}
+
+pilhangko_status PILHANGKO_CALL pilhangko_vulkan_set_budget(
+    pilhangko_vulkan *vulkan, uint32_t memory_type, bool has_budget, VkDeviceSize bytes) {
+    struct binding *b;
+    pilhangko_status status;
+    if (!vulkan) return PILHANGKO_NULL_POINTER;
+    if (!vulkan->opaque) return PILHANGKO_NO_HANDLE;
+    b = enter(binding_of(vulkan));
+    status = set_budget(b, memory_type, has_budget, bytes);
+    leave(b);
+    return status;
 }
 
 pilhangko_status PILHANGKO_CALL pilhangko_vulkan_budget(const pilhangko_vulkan *vulkan, uint32_t memory_type, pilhangko_budget *budget) {
@@ -1114,13 +1055,16 @@ static void keep_settings(struct binding *b, const pilhangko_vulkan_settings *se
     memset(b, 0, sizeof *b);
     b->number = next_number();
     b->functions = *settings->functions;
-    b->has_callbacks = settings->allocation_callbacks != NULL;
-    if (b->has_callbacks) b->callbacks = *settings->allocation_callbacks;
-    b->physical_device = settings->physical_device;
-    b->device = settings->device;
+    b->over.physical_device = settings->physical_device;
+    b->over.device = settings->device;
+    b->over.functions = &b->functions;
+    b->over.api_version = settings->api_version;
+    if (settings->allocation_callbacks) {
+        b->callbacks = *settings->allocation_callbacks;
+        b->over.allocation_callbacks = &b->callbacks;
+    }
     b->live.record_size = sizeof(struct live);
     b->live.spare = NO_RECORD;
-    b->api_version = settings->api_version;
     b->memory_budget = settings->memory_budget;
     b->device_address = settings->buffer_device_address;
     b->is_locked_outside = settings->externally_synchronized;
@@ -1136,8 +1080,8 @@ static pilhangko_status begin_binding(struct binding *b, const pilhangko_vulkan_
     pilhangko_status status;
     keep_settings(b, settings);
     memset(&device, 0, sizeof device);
-    b->functions.vkGetPhysicalDeviceProperties(b->physical_device, &device);
-    b->functions.vkGetPhysicalDeviceMemoryProperties(b->physical_device, &b->properties);
+    b->functions.vkGetPhysicalDeviceProperties(b->over.physical_device, &device);
+    b->functions.vkGetPhysicalDeviceMemoryProperties(b->over.physical_device, &b->properties);
     b->atom = device.limits.nonCoherentAtomSize;
     s = allocator_settings(settings, device.limits.bufferImageGranularity);
     if (!is_power_of_two(b->atom)) return PILHANGKO_VULKAN_INVALID_ATOM_SIZE;

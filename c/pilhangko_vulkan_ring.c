@@ -1,16 +1,9 @@
 /* Rings of Pilhangko's Vulkan binding (include/pilhangko_vulkan.h): compile it with the program, as C11 or as C++11. The ring says where
  * pieces lie and which bytes are the open frame's, the binding makes and flushes the buffer. */
-#include "pilhangko_vulkan.h"
-
-static pilhangko_vulkan_result undriven(pilhangko_status status) {
-    pilhangko_vulkan_result result;
-    result.status = status;
-    result.driver = VK_SUCCESS;
-    return result;
-}
+#include "pilhangko_vulkan_resource.h"
 
 /* A mapped buffer for a ring. */
-static pilhangko_vulkan_result make_buffer(
+static pilhangko_vulkan_result make_ring_buffer(
     pilhangko_vulkan *vulkan, const pilhangko_vulkan_ring_settings *settings, pilhangko_vulkan_ring *made) {
     VkBufferCreateInfo info;
     pilhangko_vulkan_result result;
@@ -36,7 +29,7 @@ pilhangko_vulkan_result PILHANGKO_CALL pilhangko_vulkan_ring_create(
     memset(&made, 0, sizeof made);
     result = undriven(pilhangko_ring_create(&ring->ring, settings->size, settings->frames));
     if (result.status != PILHANGKO_OK) return result;
-    result = make_buffer(vulkan, settings, &made);
+    result = make_ring_buffer(vulkan, settings, &made);
     if (result.status != PILHANGKO_OK) {
         (void)pilhangko_ring_destroy(&ring->ring);
         return result;

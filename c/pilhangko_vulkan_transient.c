@@ -1,42 +1,23 @@
 /* Transient resources over Pilhangko's Vulkan binding (include/pilhangko_vulkan.h): compile it with c/pilhangko_vulkan.c, as C11 or as C++11.
  * It makes the resources, asks the driver what they need, and binds them where pilhangko_plan puts them. */
-#include "pilhangko_vulkan.h"
+#include "pilhangko_vulkan_resource.h"
 #include <stdlib.h>
 
 /* ---- what a call works on ---- */
 
-/* A set while it is made: the memory types that all of its resources may have, and what its allocation needs. */
-struct set {
-    uint32_t type_bits;
-    bool is_alone; /* the driver requires memory for its one resource alone */
-    bool has_linear, has_non_linear;
-    VkDeviceSize alignment;
-};
-
 struct work {
     pilhangko_vulkan *vulkan;
     pilhangko_vulkan_device device;
-    VkPhysicalDeviceMemoryProperties properties;
     VkDeviceSize page_size;
     pilhangko_location location;
     const char *name;
+    uint32_t type_bits; /* of the memory types that have what the location needs */
     pilhangko_vulkan_transient made;
-    struct set *sets;
+    pilhangko_memory_needs *needs; /* of each resource, and the set that it is in */
+    size_t *sets;
     pilhangko_plan_resource *members; /* of one set: what is planned of them, and where they go */
     uint64_t *offsets;
 };
-
-static pilhangko_vulkan_result result_of(pilhangko_status status, VkResult driver) {
-    pilhangko_vulkan_result result;
-    result.status = status;
-    result.driver = status == PILHANGKO_OK ? VK_SUCCESS : driver;
-    return result;
-}
-
-/* A result in which the driver has no part. */
-static pilhangko_vulkan_result undriven(pilhangko_status status) {
-    return result_of(status, VK_SUCCESS);
-}
 
 static void *zeroed(size_t count, size_t size) {
     void *memory = count <= SIZE_MAX / size ? malloc(count * size) : NULL;
@@ -45,6 +26,7 @@ static void *zeroed(size_t count, size_t size) {
 }
 
 static void forget_work(struct work *w) {
+    free(w->needs);
     free(w->sets);
     free(w->members);
     free(w->offsets);
@@ -59,84 +41,61 @@ static void forget_made(pilhangko_vulkan_transient *made) {
 static bool has_room(struct work *w, size_t count) {
     w->made.places = (pilhangko_vulkan_transient_place *)zeroed(count, sizeof *w->made.places);
     w->made.sets = (pilhangko_vulkan_transient_set *)zeroed(count, sizeof *w->made.sets);
-    w->sets = (struct set *)zeroed(count, sizeof *w->sets);
+    w->needs = (pilhangko_memory_needs *)zeroed(count, sizeof *w->needs);
+    w->sets = (size_t *)zeroed(count, sizeof *w->sets);
     w->members = (pilhangko_plan_resource *)zeroed(count, sizeof *w->members);
     w->offsets = (uint64_t *)zeroed(count, sizeof *w->offsets);
-    return w->made.places && w->made.sets && w->sets && w->members && w->offsets;
+    return w->made.places && w->made.sets && w->needs && w->sets && w->members && w->offsets;
 }
 
-static void read_properties(struct work *w) {
+static VkDeviceSize page_size_of(const pilhangko_vulkan_device *d) {
     VkPhysicalDeviceProperties properties;
-    w->device.functions->vkGetPhysicalDeviceProperties(w->device.physical_device, &properties);
-    w->device.functions->vkGetPhysicalDeviceMemoryProperties(w->device.physical_device, &w->properties);
-    w->page_size = properties.limits.bufferImageGranularity;
+    d->functions->vkGetPhysicalDeviceProperties(d->physical_device, &properties);
+    return properties.limits.bufferImageGranularity;
+}
+
+/* The memory types that have what the location needs. */
+static uint32_t types_of_location(pilhangko_vulkan *vulkan, pilhangko_location location) {
+    const pilhangko_allocator *allocator = pilhangko_vulkan_allocator(vulkan);
+    uint32_t bits = 0;
+    size_t best;
+    (void)pilhangko_vulkan_lock(vulkan);
+    for (uint32_t i = 0; i < VK_MAX_MEMORY_TYPES; i++)
+        if (pilhangko_allocator_best_type(allocator, UINT32_C(1) << i, location, &best) == PILHANGKO_OK) bits |= UINT32_C(1) << i;
+    (void)pilhangko_vulkan_unlock(vulkan);
+    return bits;
 }
 
 /* ---- resources ---- */
 
 static bool can_be_made(const pilhangko_vulkan_transient_resource *r) {
     if (!r->buffer_info == !r->image_info || r->first_pass > r->last_pass) return false;
-    if (r->buffer_info) return !(r->buffer_info->flags & VK_BUFFER_CREATE_SPARSE_BINDING_BIT);
-    return !(r->image_info->flags & (VK_IMAGE_CREATE_SPARSE_BINDING_BIT | VK_IMAGE_CREATE_DISJOINT_BIT));
+    return r->buffer_info ? is_bindable_buffer(r->buffer_info) : is_bindable_image(r->image_info);
 }
 
-static VkResult make_resource(const pilhangko_vulkan_device *d, const pilhangko_vulkan_transient_resource *r,
-    pilhangko_vulkan_transient_place *place) {
-    const pilhangko_vulkan_functions *f = d->functions;
-    VkResult driver;
-    if (r->image_info) driver = f->vkCreateImage(d->device, r->image_info, d->allocation_callbacks, &place->image);
-    else driver = f->vkCreateBuffer(d->device, r->buffer_info, d->allocation_callbacks, &place->buffer);
-    if (driver == VK_SUCCESS) return driver;
-    place->image = VK_NULL_HANDLE; /* what a driver leaves there counts for nothing */
-    place->buffer = VK_NULL_HANDLE;
-    return driver;
+static struct resource resource_of(const pilhangko_vulkan_transient_place *place) {
+    struct resource r;
+    r.buffer = place->buffer;
+    r.image = place->image;
+    return r;
 }
 
-/* What the driver needs for a resource, and whether it requires memory for it alone. */
-static bool requirements_of(
-    const pilhangko_vulkan_device *d, const pilhangko_vulkan_transient_place *place, VkMemoryRequirements *needs) {
-    const pilhangko_vulkan_functions *f = d->functions;
-    VkMemoryDedicatedRequirements alone;
-    VkMemoryRequirements2 told;
-    memset(&alone, 0, sizeof alone);
-    alone.sType = VK_STRUCTURE_TYPE_MEMORY_DEDICATED_REQUIREMENTS;
-    memset(&told, 0, sizeof told);
-    told.sType = VK_STRUCTURE_TYPE_MEMORY_REQUIREMENTS_2;
-    told.pNext = &alone;
-    if (d->api_version >= VK_API_VERSION_1_1 && place->image != VK_NULL_HANDLE && f->vkGetImageMemoryRequirements2) {
-        VkImageMemoryRequirementsInfo2 info;
-        memset(&info, 0, sizeof info);
-        info.sType = VK_STRUCTURE_TYPE_IMAGE_MEMORY_REQUIREMENTS_INFO_2;
-        info.image = place->image;
-        f->vkGetImageMemoryRequirements2(d->device, &info, &told);
-    } else if (d->api_version >= VK_API_VERSION_1_1 && place->image == VK_NULL_HANDLE && f->vkGetBufferMemoryRequirements2) {
-        VkBufferMemoryRequirementsInfo2 info;
-        memset(&info, 0, sizeof info);
-        info.sType = VK_STRUCTURE_TYPE_BUFFER_MEMORY_REQUIREMENTS_INFO_2;
-        info.buffer = place->buffer;
-        f->vkGetBufferMemoryRequirements2(d->device, &info, &told);
-    } else if (place->image != VK_NULL_HANDLE) {
-        f->vkGetImageMemoryRequirements(d->device, place->image, &told.memoryRequirements);
-    } else {
-        f->vkGetBufferMemoryRequirements(d->device, place->buffer, &told.memoryRequirements);
-    }
-    *needs = told.memoryRequirements;
-    return alone.requiresDedicatedAllocation == VK_TRUE;
+static pilhangko_vulkan_result make_resource(
+    const pilhangko_vulkan_device *d, const pilhangko_vulkan_transient_resource *r, struct resource *made) {
+    return r->buffer_info ? make_buffer(d, r->buffer_info, made) : make_image(d, r->image_info, made);
 }
 
-static VkResult bind_place(const struct work *w, const pilhangko_vulkan_transient_place *place) {
+static pilhangko_vulkan_result bind_place(const struct work *w, const pilhangko_vulkan_transient_place *place) {
     const pilhangko_vulkan_allocation *a = &w->made.sets[place->set].allocation;
-    const pilhangko_vulkan_functions *f = w->device.functions;
-    if (place->image != VK_NULL_HANDLE) return f->vkBindImageMemory(w->device.device, place->image, a->memory, a->offset + place->offset);
-    return f->vkBindBufferMemory(w->device.device, place->buffer, a->memory, a->offset + place->offset);
+    const struct resource r = resource_of(place);
+    return bind_resource(&w->device, &r, a->memory, a->offset + place->offset);
 }
 
 /* Destroys what was made, and frees the allocations that there are: the resources first, as the driver wants it. */
 static void undo(pilhangko_vulkan *vulkan, const pilhangko_vulkan_device *d, pilhangko_vulkan_transient *made) {
     for (size_t i = 0; i < made->place_count; i++) {
-        const pilhangko_vulkan_transient_place *place = &made->places[i];
-        if (place->image != VK_NULL_HANDLE) d->functions->vkDestroyImage(d->device, place->image, d->allocation_callbacks);
-        if (place->buffer != VK_NULL_HANDLE) d->functions->vkDestroyBuffer(d->device, place->buffer, d->allocation_callbacks);
+        const struct resource r = resource_of(&made->places[i]);
+        destroy_resource(d, &r);
     }
     for (size_t s = 0; s < made->set_count; s++) {
         const pilhangko_status freed = pilhangko_vulkan_free(vulkan, &made->sets[s].allocation);
@@ -147,64 +106,45 @@ static void undo(pilhangko_vulkan *vulkan, const pilhangko_vulkan_device *d, pil
 
 /* ---- sets ---- */
 
-/* What a memory type of that location has. */
-static VkMemoryPropertyFlags needed_flags(pilhangko_location location) {
-    if (location == PILHANGKO_LOCATION_GPU_ONLY) return VK_MEMORY_PROPERTY_DEVICE_LOCAL_BIT;
-    if (location == PILHANGKO_LOCATION_CPU_TO_GPU || location == PILHANGKO_LOCATION_GPU_TO_CPU)
-        return VK_MEMORY_PROPERTY_HOST_VISIBLE_BIT | VK_MEMORY_PROPERTY_HOST_COHERENT_BIT;
-    return 0;
+/* What a plan has to know of a resource. */
+static pilhangko_plan_resource planned_of(const pilhangko_vulkan_transient_resource *r, const VkMemoryRequirements *needs) {
+    pilhangko_plan_resource planned;
+    planned.size = needs->size;
+    planned.alignment = needs->alignment;
+    planned.kind = r->buffer_info ? PILHANGKO_KIND_LINEAR : kind_of_image(r->image_info);
+    planned.first_pass = r->first_pass;
+    planned.last_pass = r->last_pass;
+    return planned;
 }
 
-/* Whether one of these memory types has what the location needs. */
-static bool has_type(const struct work *w, uint32_t type_bits) {
-    const VkMemoryPropertyFlags needed = needed_flags(w->location);
-    for (uint32_t i = 0; i < w->properties.memoryTypeCount; i++)
-        if ((type_bits >> i & 1) && (w->properties.memoryTypes[i].propertyFlags & needed) == needed) return true;
-    return false;
-}
-
-/* The set that a resource belongs to: one is added where none of those there serves. sets_there counts them. */
-static size_t set_for(struct work *w, const VkMemoryRequirements *needs, bool is_alone, size_t *sets_there) {
-    size_t s = 0;
-    if (is_alone) s = *sets_there;
-    while (s < *sets_there && (w->sets[s].is_alone || !has_type(w, w->sets[s].type_bits & needs->memoryTypeBits))) s++;
-    if (s == *sets_there) {
-        w->sets[s].type_bits = UINT32_MAX;
-        w->sets[s].is_alone = is_alone;
-        (*sets_there)++;
-    }
-    return s;
-}
-
-static void join_set(struct work *w, pilhangko_vulkan_transient_place *place, const VkMemoryRequirements *needs) {
-    struct set *set = &w->sets[place->set];
-    set->type_bits &= needs->memoryTypeBits;
-    if (set->alignment < needs->alignment) set->alignment = needs->alignment;
-    if (place->planned.kind == PILHANGKO_KIND_LINEAR) set->has_linear = true;
-    else set->has_non_linear = true;
-    w->made.sets[place->set].unshared += needs->size;
-}
-
-/* Makes each resource, asks what it needs, and puts it in a set. */
-static pilhangko_vulkan_result make_all(struct work *w, const pilhangko_vulkan_transient_resource *resources, size_t count, size_t *sets_there) {
+/* Makes each resource, and asks what it needs. */
+static pilhangko_vulkan_result make_all(struct work *w, const pilhangko_vulkan_transient_resource *resources, size_t count) {
     for (size_t i = 0; i < count; i++) {
         pilhangko_vulkan_transient_place *place = &w->made.places[i];
-        const VkResult driver = make_resource(&w->device, &resources[i], place);
-        const bool is_linear = resources[i].buffer_info || resources[i].image_info->tiling == VK_IMAGE_TILING_LINEAR;
+        struct resource made = {VK_NULL_HANDLE, VK_NULL_HANDLE};
         VkMemoryRequirements needs;
-        bool is_alone;
+        const pilhangko_vulkan_result result = make_resource(&w->device, &resources[i], &made);
+        if (result.status != PILHANGKO_OK) return result;
+        place->buffer = made.buffer;
+        place->image = made.image;
         w->made.place_count = i + 1;
-        if (place->image == VK_NULL_HANDLE && place->buffer == VK_NULL_HANDLE) return result_of(PILHANGKO_VULKAN_CALL_FAILED, driver);
-        is_alone = requirements_of(&w->device, place, &needs);
-        place->planned.size = needs.size;
-        place->planned.alignment = needs.alignment;
-        place->planned.kind = is_linear ? PILHANGKO_KIND_LINEAR : PILHANGKO_KIND_NON_LINEAR;
-        place->planned.first_pass = resources[i].first_pass;
-        place->planned.last_pass = resources[i].last_pass;
-        place->set = set_for(w, &needs, is_alone, sets_there);
-        join_set(w, place, &needs);
+        w->needs[i].dedicated = requirements_of(&w->device, &made, &needs).requiresDedicatedAllocation == VK_TRUE;
+        w->needs[i].memory_type_bits = needs.memoryTypeBits & w->type_bits;
+        place->planned = planned_of(&resources[i], &needs);
     }
     return undriven(PILHANGKO_OK);
+}
+
+/* Puts each resource in a set. sets_there is how many there are. */
+static pilhangko_status gather(struct work *w, size_t *sets_there) {
+    const pilhangko_status status = pilhangko_plan_sets(w->needs, w->made.place_count, w->sets);
+    if (status != PILHANGKO_OK) return status;
+    for (size_t i = 0; i < w->made.place_count; i++) {
+        w->made.places[i].set = w->sets[i];
+        w->made.sets[w->sets[i]].unshared += w->made.places[i].planned.size;
+        if (w->sets[i] >= *sets_there) *sets_there = w->sets[i] + 1;
+    }
+    return status;
 }
 
 /* The resources of a set, in their order; returns how many they are. */
@@ -215,65 +155,59 @@ static size_t members_of(const pilhangko_vulkan_transient *made, size_t s, pilha
     return count;
 }
 
-static pilhangko_status plan_set(struct work *w, size_t s) {
+/* Plans a set, and says which memory its heap takes. */
+static pilhangko_status plan_set(struct work *w, size_t s, pilhangko_heap_memory *memory) {
     const size_t count = members_of(&w->made, s, w->members);
     size_t next = 0;
     const pilhangko_status status = pilhangko_plan(w->members, count, w->page_size, w->offsets, &w->made.sets[s].plan);
     if (status != PILHANGKO_OK) return status;
     for (size_t i = 0; i < w->made.place_count; i++)
         if (w->made.places[i].set == s) w->made.places[i].offset = w->offsets[next++];
-    return PILHANGKO_OK;
+    return pilhangko_plan_memory(w->members, count, w->made.sets[s].plan.heap_size, w->page_size, memory);
 }
 
-/* The one resource of a set that is alone. */
-static const pilhangko_vulkan_transient_place *only_place(const struct work *w, size_t s) {
-    size_t i = 0;
-    while (w->made.places[i].set != s) i++;
-    return &w->made.places[i];
-}
-
-/* Allocates a set's memory. One with both kinds has whole pages, so that it shares none with what lies beside it. */
-static pilhangko_vulkan_result allocate_set(struct work *w, size_t s) {
-    const struct set *set = &w->sets[s];
-    pilhangko_vulkan_transient_set *made = &w->made.sets[s];
+/* What is asked for a set. One that is dedicated has one resource. */
+static pilhangko_vulkan_request request_of(const struct work *w, size_t s, const pilhangko_heap_memory *memory) {
     pilhangko_vulkan_request request;
     memset(&request, 0, sizeof request);
-    request.requirements.size = made->plan.heap_size;
-    request.requirements.alignment = set->alignment;
-    request.requirements.memoryTypeBits = set->type_bits;
+    request.requirements.size = memory->size;
+    request.requirements.alignment = memory->alignment;
+    request.requirements.memoryTypeBits = UINT32_MAX;
     request.location = w->location;
-    request.kind = set->has_non_linear ? PILHANGKO_KIND_NON_LINEAR : PILHANGKO_KIND_LINEAR;
+    request.kind = memory->kind;
     request.scheme = PILHANGKO_SCHEME_MANAGED;
     request.name = w->name;
-    if (set->has_linear && set->has_non_linear) {
-        const VkDeviceSize rest = made->plan.heap_size % w->page_size, padding = rest ? w->page_size - rest : 0;
-        if (padding > UINT64_MAX - made->plan.heap_size) return undriven(PILHANGKO_OUT_OF_MEMORY);
-        request.requirements.size += padding;
-        if (request.requirements.alignment < w->page_size) request.requirements.alignment = w->page_size;
-    }
-    if (set->is_alone) {
-        const pilhangko_vulkan_transient_place *place = only_place(w, s);
+    for (size_t i = 0; i < w->made.place_count; i++) {
+        const pilhangko_vulkan_transient_place *place = &w->made.places[i];
+        if (place->set != s) continue;
+        request.requirements.memoryTypeBits &= w->needs[i].memory_type_bits;
+        if (!w->needs[i].dedicated) continue;
         request.scheme = place->image != VK_NULL_HANDLE ? PILHANGKO_SCHEME_IMAGE : PILHANGKO_SCHEME_BUFFER;
         request.image = place->image;
         request.buffer = place->buffer;
     }
-    made->dedicated = set->is_alone;
-    return pilhangko_vulkan_allocate(w->vulkan, &request, &made->allocation);
+    return request;
+}
+
+static pilhangko_vulkan_result allocate_set(struct work *w, size_t s, const pilhangko_heap_memory *memory) {
+    const pilhangko_vulkan_request request = request_of(w, s, memory);
+    w->made.sets[s].dedicated = request.scheme != PILHANGKO_SCHEME_MANAGED;
+    return pilhangko_vulkan_allocate(w->vulkan, &request, &w->made.sets[s].allocation);
 }
 
 /* Plans and allocates each set, then binds each resource. */
 static pilhangko_vulkan_result place_all(struct work *w, size_t sets_there) {
     for (size_t s = 0; s < sets_there; s++) {
-        const pilhangko_status status = plan_set(w, s);
-        pilhangko_vulkan_result result;
-        if (status != PILHANGKO_OK) return undriven(status);
-        result = allocate_set(w, s);
+        pilhangko_heap_memory memory;
+        pilhangko_vulkan_result result = undriven(plan_set(w, s, &memory));
+        if (result.status != PILHANGKO_OK) return result;
+        result = allocate_set(w, s, &memory);
         if (result.status != PILHANGKO_OK) return result;
         w->made.set_count = s + 1;
     }
     for (size_t i = 0; i < w->made.place_count; i++) {
-        const VkResult driver = bind_place(w, &w->made.places[i]);
-        if (driver != VK_SUCCESS) return result_of(PILHANGKO_VULKAN_CALL_FAILED, driver);
+        const pilhangko_vulkan_result result = bind_place(w, &w->made.places[i]);
+        if (result.status != PILHANGKO_OK) return result;
     }
     return undriven(PILHANGKO_OK);
 }
@@ -281,7 +215,8 @@ static pilhangko_vulkan_result place_all(struct work *w, size_t sets_there) {
 static pilhangko_vulkan_result create(
     struct work *w, const pilhangko_vulkan_transient_resource *resources, size_t count, pilhangko_vulkan_transient *transient) {
     size_t sets_there = 0;
-    pilhangko_vulkan_result result = make_all(w, resources, count, &sets_there);
+    pilhangko_vulkan_result result = make_all(w, resources, count);
+    if (result.status == PILHANGKO_OK) result = undriven(gather(w, &sets_there));
     if (result.status == PILHANGKO_OK) result = place_all(w, sets_there);
     if (result.status == PILHANGKO_OK) *transient = w->made;
     else undo(w->vulkan, &w->device, &w->made);
@@ -308,7 +243,8 @@ pilhangko_vulkan_result PILHANGKO_CALL pilhangko_vulkan_create_transient(pilhang
     w.location = location;
     w.name = name;
     if (has_room(&w, count)) {
-        read_properties(&w);
+        w.page_size = page_size_of(&w.device);
+        w.type_bits = types_of_location(vulkan, location);
         result = create(&w, resources, count, transient);
     } else {
         forget_made(&w.made);

@@ -63,8 +63,49 @@ impl Order {
 #[derive(Debug)]
 pub struct Plan {
     resources: Vec<raw::PlanResource>,
+    page_size: u64,
     offsets: Vec<u64>,
     told: raw::HeapPlan,
+}
+
+/// What memory a resource may lie in.
+#[derive(Clone, Copy, Debug, PartialEq, Eq)]
+pub struct MemoryNeeds {
+    /// Bit N is set where memory type N serves.
+    pub memory_type_bits: u32,
+    /// Whether nothing else may lie in it.
+    pub dedicated: bool,
+}
+
+/// Memory to be allocated for a heap.
+#[derive(Clone, Copy, Debug, PartialEq, Eq)]
+pub struct Memory {
+    /// In bytes.
+    pub size: u64,
+    /// In bytes, a power of two.
+    pub alignment: u64,
+    /// Its kind.
+    pub kind: Kind,
+}
+
+/// Which resources share an allocation: the set of each. In their order each one joins the first set, none of them and itself dedicated, with
+/// which it has a memory type in common; where there is none, it begins one. Sets are numbered from 0, as they begin.
+///
+/// The error: `HostOutOfMemory`.
+pub fn sets(needs: &[MemoryNeeds]) -> Result<Vec<usize>> {
+    let mut asked = Vec::new();
+    asked.try_reserve_exact(needs.len())?;
+    asked.extend(
+        needs
+            .iter()
+            .map(|&MemoryNeeds { memory_type_bits, dedicated }| raw::MemoryNeeds { memory_type_bits, dedicated }),
+    );
+    let mut sets = Vec::new();
+    sets.try_reserve_exact(needs.len())?;
+    sets.resize(needs.len(), 0);
+    // SAFETY: both lists have as many entries as is said, and outlive the call.
+    check(unsafe { raw::pilhangko_raw_plan_sets(asked.as_ptr(), asked.len(), sets.as_mut_ptr(), sets.len()) })?;
+    Ok(sets)
 }
 
 /// Places resources in one heap: at the offsets of the order with the smallest heap, of equal ones the first of [`Order`]. Two resources that
@@ -90,7 +131,7 @@ pub fn plan(resources: &[Resource], page_size: u64) -> Result<Plan> {
     check(unsafe {
         raw::pilhangko_raw_plan(asked.as_ptr(), asked.len(), page_size, offsets.as_mut_ptr(), offsets.len(), &mut told)
     })?;
-    Ok(Plan { resources: asked, offsets, told })
+    Ok(Plan { resources: asked, page_size, offsets, told })
 }
 
 impl Plan {
@@ -112,6 +153,25 @@ impl Plan {
     /// The order in which the resources were placed.
     pub fn order(&self) -> Order {
         Order::told(self.told.order)
+    }
+
+    /// The memory for the heap. Where all resources are of one kind, so is the memory, as large as the heap; where they are of both, it begins
+    /// with a page and takes whole ones, so that nothing else lies on them.
+    ///
+    /// The errors: `OutOfMemory` where whole pages would pass `u64::MAX`, `HostOutOfMemory`.
+    pub fn memory(&self) -> Result<Memory> {
+        let mut told = raw::HeapMemory::default();
+        // SAFETY: the list has as many entries as is said, and outlives the call.
+        check(unsafe {
+            raw::pilhangko_raw_plan_memory(
+                self.resources.as_ptr(),
+                self.resources.len(),
+                self.told.heap_size,
+                self.page_size,
+                &mut told,
+            )
+        })?;
+        Ok(Memory { size: told.size, alignment: told.alignment, kind: Kind::of(told.kind == raw::KIND_LINEAR) })
     }
 
     /// Which resources the one at an index takes bytes over from: those whose life ended before its own begins, and some of whose bytes it

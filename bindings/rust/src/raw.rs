@@ -310,6 +310,21 @@ pub(crate) struct HeapPlan {
     pub(crate) order: u32,
 }
 
+#[repr(C)]
+#[derive(Clone, Copy, Debug)]
+pub(crate) struct MemoryNeeds {
+    pub(crate) memory_type_bits: u32,
+    pub(crate) dedicated: bool,
+}
+
+#[repr(C)]
+#[derive(Clone, Copy, Debug, Default)]
+pub(crate) struct HeapMemory {
+    pub(crate) size: u64,
+    pub(crate) alignment: u64,
+    pub(crate) kind: u32,
+}
+
 extern "C" {
     pub(crate) fn pilhangko_raw_virtual_block_create(block: *mut Handle, size: u64, page_size: u64) -> u32;
     pub(crate) fn pilhangko_raw_virtual_block_allocate(
@@ -495,6 +510,12 @@ extern "C" {
         budget: *mut Budget,
     ) -> u32;
     pub(crate) fn pilhangko_raw_allocator_capacity(allocator: *mut Handle, bytes: *mut u64) -> u32;
+    pub(crate) fn pilhangko_raw_allocator_best_type(
+        allocator: *mut Handle,
+        memory_type_bits: u32,
+        location: u32,
+        memory_type: *mut usize,
+    ) -> u32;
     pub(crate) fn pilhangko_raw_allocator_type_statistics(
         allocator: *mut Handle,
         memory_type: usize,
@@ -565,5 +586,18 @@ extern "C" {
         reused: *mut usize,
         room: usize,
         reused_count: *mut usize,
+    ) -> u32;
+    pub(crate) fn pilhangko_raw_plan_sets(
+        needs: *const MemoryNeeds,
+        count: usize,
+        sets: *mut usize,
+        room: usize,
+    ) -> u32;
+    pub(crate) fn pilhangko_raw_plan_memory(
+        resources: *const PlanResource,
+        count: usize,
+        heap_size: u64,
+        page_size: u64,
+        memory: *mut HeapMemory,
     ) -> u32;
 }

@@ -5,7 +5,7 @@ pub(crate) mod common;
 
 use crate::heap::refusing::{has_refused, held, refuse};
 use crate::memory_type::{MemoryRequest, Prepared};
-use crate::plan::Resource;
+use crate::plan::{MemoryNeeds, Resource};
 use crate::virtual_block::VirtualRequest;
 use crate::vulkan::{AllocationCreateDesc, AllocationScheme, Allocator, AllocatorCreateDesc, MemoryRequirements};
 use crate::{plan, AllocationError, Kind, MemoryLocation, MemoryType, Result, Ring, VirtualBlock};
@@ -149,12 +149,19 @@ fn of_a_plan() {
     let resource =
         |first_pass| Resource { size: 100, alignment: 4, kind: Kind::Linear, first_pass, last_pass: first_pass };
     let resources: Vec<_> = (0..40).map(|index| resource(index / 2)).collect();
-    let (planned, refusals) = in_turn(&mut (), |()| plan(&resources, 1), |()| ());
+    let (mut planned, refusals) = in_turn(&mut (), |()| plan(&resources, 1), |()| ());
     assert!(refusals > 0);
     assert_eq!((planned.heap_size(), planned.peak()), (200, 200));
     let (reused, refusals) = in_turn(&mut (), |()| planned.reuses(39), |()| ());
     assert!(refusals > 0);
     assert_eq!(reused.len(), 19);
+    let (memory, refusals) = in_turn(&mut planned, |it| it.memory(), |_| ());
+    assert!(refusals > 0);
+    assert_eq!(memory.size, 200);
+    let needs = [1, 2, 4].map(|memory_type_bits| MemoryNeeds { memory_type_bits, dedicated: false });
+    let (sets, refusals) = in_turn(&mut (), |()| plan::sets(&needs), |()| ());
+    assert!(refusals > 0);
+    assert_eq!(sets, [0, 1, 2]);
     drop((planned, reused));
     assert_eq!(held(), 0);
 }

@@ -4,7 +4,7 @@
 mod common;
 
 use common::{FakeDriver, Random, MB};
-use pilhangko::plan::{Order, Resource};
+use pilhangko::plan::{Memory, MemoryNeeds, Order, Resource};
 use pilhangko::vulkan::{Allocator, AllocatorCreateDesc, MemoryRequirements, TransientCreateDesc, TransientResource};
 use pilhangko::{plan, AllocationError, Kind, MemoryLocation};
 use std::cmp::Reverse;
@@ -44,6 +44,27 @@ fn plans_are_refused_by_their_cause() {
     assert_eq!(refused(one, 0), AllocationError::InvalidAllocationCreateDesc);
     assert_eq!(refused(one, 3), AllocationError::InvalidAllocationCreateDesc);
     assert_eq!(refused(Resource { size: u64::MAX - 7, ..one }, 1), AllocationError::OutOfMemory);
+}
+
+#[test]
+fn a_resource_joins_the_first_set_with_which_it_shares_a_type() {
+    let needs = |memory_type_bits| MemoryNeeds { memory_type_bits, dedicated: false };
+    let own = MemoryNeeds { memory_type_bits: 15, dedicated: true };
+    let sets = plan::sets(&[needs(0b0111), needs(0b1001), needs(0b0110), own, needs(0b1000), needs(0b0001), needs(0)]);
+    assert_eq!(sets.unwrap(), [0, 0, 1, 2, 3, 0, 4]); // set 0: types 0 to 2, then 0 alone
+    assert_eq!(plan::sets(&[]).unwrap(), []);
+}
+
+#[test]
+fn memory_of_both_kinds_takes_whole_pages() {
+    let heap = |resources: &[Resource]| plan(resources, 1024).unwrap().memory().unwrap();
+    let (buffer, image) = (resource(100, Kind::Linear, 0, 0), resource(200, Kind::NonLinear, 0, 0));
+    assert_eq!(heap(&[buffer]), Memory { size: 100, alignment: 4, kind: Kind::Linear });
+    assert_eq!(heap(&[image, image]), Memory { size: 400, alignment: 4, kind: Kind::NonLinear });
+    assert_eq!(heap(&[image, buffer]), Memory { size: 2048, alignment: 1024, kind: Kind::NonLinear });
+    assert_eq!(heap(&[]), Memory { size: 0, alignment: 1, kind: Kind::Linear });
+    let whole = [Resource { size: u64::MAX, ..image }, Resource { first_pass: 1, last_pass: 1, ..buffer }];
+    assert_eq!(plan(&whole, 1024).unwrap().memory().unwrap_err(), AllocationError::OutOfMemory);
 }
 
 // ---- the rules, read off

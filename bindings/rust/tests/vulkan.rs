@@ -211,6 +211,16 @@ fn requests_are_refused_by_their_cause_before_the_driver_is_asked() {
 }
 
 #[test]
+fn a_location_begins_at_its_best_type() {
+    let driver = driver();
+    let a = made(&driver);
+    assert_eq!([7, 6, 2].map(|bits| a.best_type(bits, MemoryLocation::GpuOnly)), [Some(0), Some(2), None]);
+    assert_eq!([7, 3, 1].map(|bits| a.best_type(bits, MemoryLocation::CpuToGpu)), [Some(2), Some(1), None]);
+    assert_eq!([7, 5].map(|bits| a.best_type(bits, MemoryLocation::GpuToCpu)), [Some(1), Some(2)]); // none is cached
+    assert_eq!([6, !7].map(|bits| a.best_type(bits, MemoryLocation::Unknown)), [Some(1), None]);
+}
+
+#[test]
 fn budgets_bound_the_blocks_of_a_memory_type() {
     let driver = driver();
     let mut a = made(&driver);

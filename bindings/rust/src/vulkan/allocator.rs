@@ -231,6 +231,12 @@ impl Allocator {
         Ok(())
     }
 
+    /// The memory type at which a request with these bits begins: the first with all flags that the location prefers, else the first with
+    /// all that it must have; `None` where there is neither.
+    pub fn best_type(&self, memory_type_bits: u32, location: MemoryLocation) -> Option<usize> {
+        self.machine.best_type(memory_type_bits, location)
+    }
+
     /// The bound of a memory type in bytes; `None` where it has none, or isn't there.
     pub fn budget(&self, memory_type: usize) -> Option<u64> {
         self.machine.budget(memory_type)

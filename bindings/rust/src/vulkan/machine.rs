@@ -225,6 +225,17 @@ impl Machine {
 
 /// What is read of it.
 impl Machine {
+    /// The memory type at which a request with these bits begins.
+    pub(super) fn best_type(&self, memory_type_bits: u32, location: MemoryLocation) -> Option<usize> {
+        let (number, mut index) = (location_number(location), 0);
+        // SAFETY: the handle is this machine's alone: it isn't `Sync`.
+        check(unsafe {
+            raw::pilhangko_raw_allocator_best_type(self.handle.as_ptr(), memory_type_bits, number, &mut index)
+        })
+        .ok()?;
+        Some(index)
+    }
+
     /// What is counted of a memory type, if it is there.
     pub(super) fn type_statistics(&self, memory_type: usize) -> Option<TypeStatistics> {
         let mut s = raw::TypeStatistics::default();

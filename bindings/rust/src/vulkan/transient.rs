@@ -1,10 +1,10 @@
 //! Buffers and images of a frame that share memory.
 
-use super::abi::{MemoryPropertyFlags, MemoryRequirements};
+use super::abi::MemoryRequirements;
 use super::allocation::Allocation;
 use super::allocator::{AllocationCreateDesc, AllocationScheme, Allocator};
 use crate::error::internal;
-use crate::plan::{plan, Plan, Resource};
+use crate::plan::{self, plan, Memory, MemoryNeeds, Plan, Resource};
 use crate::{AllocationError, Kind, MemoryLocation, Result};
 
 /// What a buffer or an image of a frame needs, and the passes in which it is alive, both included.
@@ -99,24 +99,6 @@ impl Transient {
     }
 }
 
-/// The resources that go into one allocation, before it is planned.
-#[derive(Debug)]
-struct Gathered {
-    members: Vec<usize>,
-    memory_type_bits: u32,
-}
-
-/// What a memory type of that location has.
-fn needed_flags(location: MemoryLocation) -> MemoryPropertyFlags {
-    match location {
-        MemoryLocation::Unknown => MemoryPropertyFlags::default(),
-        MemoryLocation::GpuOnly => MemoryPropertyFlags::DEVICE_LOCAL,
-        MemoryLocation::CpuToGpu | MemoryLocation::GpuToCpu => {
-            MemoryPropertyFlags::HOST_VISIBLE | MemoryPropertyFlags::HOST_COHERENT
-        }
-    }
-}
-
 impl Allocator {
     /// Allocates memory that resources share which are never alive in one pass. In their order each one joins the first set with which it
     /// shares a memory type that has what the location needs, or begins one; each set is planned ([`plan`]), and has one allocation.
@@ -151,74 +133,70 @@ impl Allocator {
     }
 
     fn fill(&mut self, desc: &TransientCreateDesc<'_>, transient: &mut Transient) -> Result<()> {
-        let gathered = self.gather(desc)?;
-        transient.places.try_reserve_exact(desc.resources.len())?;
-        transient.places.resize(desc.resources.len(), TransientPlace { set: 0, offset: 0 });
-        transient.sets.try_reserve_exact(gathered.len())?;
-        for (number, set) in gathered.into_iter().enumerate() {
-            let plan = self.plan_of(desc, &set)?;
-            for (&index, &offset) in set.members.iter().zip(plan.offsets()) {
-                transient.places[index] = TransientPlace { set: number, offset };
+        let needs = self.needs_of(desc)?;
+        let sets = plan::sets(&needs)?;
+        let count = sets.iter().max().map_or(0, |last| last + 1);
+        transient.places.try_reserve_exact(sets.len())?;
+        transient.places.extend(sets.iter().map(|&set| TransientPlace { set, offset: 0 }));
+        transient.sets.try_reserve_exact(count)?;
+        for number in 0..count {
+            let members = members_of(&sets, number)?;
+            let plan = self.plan_of(desc, &members)?;
+            for (&index, &offset) in members.iter().zip(plan.offsets()) {
+                transient.places[index].offset = offset;
             }
-            let allocation = self.allocate_set(desc, &set, &plan)?;
-            transient.sets.push(TransientSet { allocation, plan, members: set.members });
+            let memory_type_bits = members.iter().fold(u32::MAX, |bits, &index| bits & needs[index].memory_type_bits);
+            let allocation = self.allocate_set(desc, &plan, memory_type_bits)?;
+            transient.sets.push(TransientSet { allocation, plan, members });
         }
         Ok(())
     }
 
-    /// The sets, in the order in which they begin.
-    fn gather(&self, desc: &TransientCreateDesc<'_>) -> Result<Vec<Gathered>> {
-        let mut sets: Vec<Gathered> = Vec::new();
-        for (index, resource) in desc.resources.iter().enumerate() {
-            let bits = resource.requirements.memory_type_bits;
-            let joined = sets.iter().position(|set| self.has_type(set.memory_type_bits & bits, desc.location));
-            let number = joined.unwrap_or(sets.len());
-            if joined.is_none() {
-                sets.try_reserve(1)?;
-                sets.push(Gathered { members: Vec::new(), memory_type_bits: u32::MAX });
-            }
-            let set = &mut sets[number];
-            set.members.try_reserve(1)?;
-            set.members.push(index);
-            set.memory_type_bits &= bits;
-        }
-        Ok(sets)
+    /// What each resource needs, of the memory types that have what the location needs.
+    fn needs_of(&self, desc: &TransientCreateDesc<'_>) -> Result<Vec<MemoryNeeds>> {
+        let bits = (0..u32::BITS).map(|index| 1 << index);
+        let of_location: u32 = bits.filter(|&bit| self.best_type(bit, desc.location).is_some()).sum();
+        let mut needs = Vec::new();
+        needs.try_reserve_exact(desc.resources.len())?;
+        needs.extend(desc.resources.iter().map(|it| MemoryNeeds {
+            memory_type_bits: it.requirements.memory_type_bits & of_location,
+            dedicated: false,
+        }));
+        Ok(needs)
     }
 
-    /// Whether one of these memory types has what the location needs.
-    fn has_type(&self, bits: u32, location: MemoryLocation) -> bool {
-        let needed = needed_flags(location);
-        let mut types = (0..).zip(self.device().memory_types());
-        types.any(|(index, it): (u32, _)| bits >> index & 1 == 1 && it.property_flags.contains(needed))
-    }
-
-    fn plan_of(&self, desc: &TransientCreateDesc<'_>, set: &Gathered) -> Result<Plan> {
-        let mut members = Vec::new();
-        members.try_reserve_exact(set.members.len())?;
-        members.extend(set.members.iter().map(|&index| {
+    fn plan_of(&self, desc: &TransientCreateDesc<'_>, members: &[usize]) -> Result<Plan> {
+        let mut resources = Vec::new();
+        resources.try_reserve_exact(members.len())?;
+        resources.extend(members.iter().map(|&index| {
             let TransientResource { requirements, linear, first_pass, last_pass } = desc.resources[index];
             let MemoryRequirements { size, alignment, .. } = requirements;
             Resource { size, alignment, kind: Kind::of(linear), first_pass, last_pass }
         }));
-        plan(&members, self.device().limits().buffer_image_granularity)
+        plan(&resources, self.device().limits().buffer_image_granularity)
     }
 
-    /// Allocates a set's memory. One with both kinds has whole pages, so that it shares none with what lies beside it.
-    fn allocate_set(&mut self, desc: &TransientCreateDesc<'_>, set: &Gathered, plan: &Plan) -> Result<Allocation> {
-        let members = || set.members.iter().map(|&index| &desc.resources[index]);
-        let page = self.device().limits().buffer_image_granularity;
-        let mut size = plan.heap_size();
-        let mut alignment = members().map(|it| it.requirements.alignment).max().unwrap_or(1);
-        if members().any(|it| it.linear) && members().any(|it| !it.linear) {
-            size = size.checked_next_multiple_of(page).ok_or(AllocationError::OutOfMemory)?;
-            alignment = alignment.max(page);
-        }
+    fn allocate_set(
+        &mut self,
+        desc: &TransientCreateDesc<'_>,
+        plan: &Plan,
+        memory_type_bits: u32,
+    ) -> Result<Allocation> {
+        let Memory { size, alignment, kind } = plan.memory()?;
         self.allocate(&AllocationCreateDesc {
             name: desc.name,
-            requirements: MemoryRequirements { size, alignment, memory_type_bits: set.memory_type_bits },
+            requirements: MemoryRequirements { size, alignment, memory_type_bits },
             location: desc.location,
-            linear: members().all(|it| it.linear),
+            linear: kind == Kind::Linear,
             allocation_scheme: AllocationScheme::GpuAllocatorManaged,
         })
     }
+}
+
+/// The resources that are in a set.
+fn members_of(sets: &[usize], number: usize) -> Result<Vec<usize>> {
+    let mut members = Vec::new();
+    members.try_reserve_exact(sets.iter().filter(|&&set| set == number).count())?;
+    members.extend((0..sets.len()).filter(|&index| sets[index] == number));
+    Ok(members)
 }
