@@ -397,6 +397,27 @@ static void counts_of_types(const pilhangko_allocator *a) {
     CHECK(s.pieces == 3 && s.piece_bytes == 456 && s.gaps == 1 && s.longest_gap == 8 * MB - 356);
 }
 
+static void begins_at(const pilhangko_allocator *a, uint32_t bits, pilhangko_location location, pilhangko_status status, size_t wanted) {
+    size_t type = 9;
+    IS(pilhangko_allocator_best_type(a, bits, location, &type), status);
+    CHECK(type == wanted);
+}
+
+static void types_of_locations(const pilhangko_allocator *a) {
+    begins_at(a, 7, PILHANGKO_LOCATION_GPU_ONLY, PILHANGKO_OK, 0);
+    begins_at(a, 6, PILHANGKO_LOCATION_GPU_ONLY, PILHANGKO_OK, 2);
+    begins_at(a, 2, PILHANGKO_LOCATION_GPU_ONLY, PILHANGKO_NO_MEMORY_TYPE, 9);
+    begins_at(a, 7, PILHANGKO_LOCATION_CPU_TO_GPU, PILHANGKO_OK, 2);
+    begins_at(a, 3, PILHANGKO_LOCATION_CPU_TO_GPU, PILHANGKO_OK, 1);
+    begins_at(a, 1, PILHANGKO_LOCATION_CPU_TO_GPU, PILHANGKO_NO_MEMORY_TYPE, 9);
+    begins_at(a, 7, PILHANGKO_LOCATION_GPU_TO_CPU, PILHANGKO_OK, 1); /* none is cached */
+    begins_at(a, 5, PILHANGKO_LOCATION_GPU_TO_CPU, PILHANGKO_OK, 2);
+    begins_at(a, 6, PILHANGKO_LOCATION_UNKNOWN, PILHANGKO_OK, 1);
+    begins_at(a, ~UINT32_C(7), PILHANGKO_LOCATION_UNKNOWN, PILHANGKO_NO_MEMORY_TYPE, 9);
+    begins_at(a, 7, 0, PILHANGKO_INVALID, 9);
+    begins_at(a, 7, 5, PILHANGKO_INVALID, 9);
+}
+
 static void blocks_of_slots(const pilhangko_allocator *a) {
     pilhangko_allocator_live_block block = {false, true, false, 9, 9, 9};
     pilhangko_memory_block_statistics s = {false, 9, 9, 9, 9};
@@ -480,6 +501,7 @@ static void visits(void) {
     IS(pilhangko_allocator_set_budget(&a, 0, true, 16 * MB), PILHANGKO_OK);
     IS(pilhangko_allocator_begin(&a, &r, "awaited", &p), PILHANGKO_OK);
     is_question(&p, 8 * MB, 0, false, false);
+    types_of_locations(&a);
     blocks_of_slots(&a);
     pieces_of_slots(&a);
     texts(&a);
@@ -513,6 +535,7 @@ static void each_call(pilhangko_allocator *a, bool tells, pilhangko_status expec
     IS(pilhangko_allocator_type_statistics(a, 0, tells ? &type : NULL), expected);
     IS(pilhangko_allocator_statistics(a, tells ? &type : NULL), expected);
     IS(pilhangko_allocator_type_capacity(a, 0, tells ? &bytes : NULL), expected);
+    IS(pilhangko_allocator_best_type(a, 7, PILHANGKO_LOCATION_GPU_ONLY, tells ? &count : NULL), expected);
     IS(pilhangko_allocator_block(a, 0, 0, tells ? &shown : NULL), expected);
     IS(pilhangko_allocator_block_statistics(a, 0, 0, tells ? &block : NULL), expected);
     IS(pilhangko_allocator_pieces(a, 0, 0, 0, views, 1, tells ? &count : NULL), expected);

@@ -332,4 +332,26 @@ static inline pilhangko_vulkan_settings fake_settings(void) {
     settings.largest_host_block_size = UINT64_C(8) << 20;
     return settings;
 }
+
+/* A binding over the device as it begins. */
+static inline pilhangko_vulkan fake_binding(void) {
+    pilhangko_vulkan vulkan = {0};
+    const pilhangko_vulkan_settings settings = fake_settings();
+    fake_begin();
+    IS(pilhangko_vulkan_create(&vulkan, &settings), PILHANGKO_OK);
+    return vulkan;
+}
+
+/* A request for memory that may be shared, of one of these types, wherever it is. */
+static inline pilhangko_vulkan_request fake_request(VkDeviceSize size, VkDeviceSize alignment, uint32_t bits) {
+    pilhangko_vulkan_request request;
+    memset(&request, 0, sizeof request);
+    request.requirements.size = size;
+    request.requirements.alignment = alignment;
+    request.requirements.memoryTypeBits = bits;
+    request.location = PILHANGKO_LOCATION_UNKNOWN;
+    request.kind = PILHANGKO_KIND_LINEAR;
+    request.scheme = PILHANGKO_SCHEME_MANAGED;
+    return request;
+}
 #endif

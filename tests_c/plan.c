@@ -84,6 +84,50 @@ static void statuses(void) {
     CHECK(count == 9 && reused[0] == 3 && reused[1] == 4);
 }
 
+/* ---- which resources share an allocation, and the memory of a heap ---- */
+
+/* Set 0 may have memory types 0, 1 and 2, then 0 alone; no set has none. */
+static void joins_sets(void) {
+    const pilhangko_memory_needs needs[] = {{7, false}, {9, false}, {6, false}, {15, true}, {8, false}, {1, false}, {0, false}, {0, false}};
+    const size_t wanted[] = {0, 0, 1, 2, 3, 0, 4, 5};
+    size_t sets[8];
+    IS(pilhangko_plan_sets(needs, 8, sets), PILHANGKO_OK);
+    for (size_t i = 0; i < 8; i++) CHECK(sets[i] == wanted[i]);
+    IS(pilhangko_plan_sets(NULL, 0, NULL), PILHANGKO_OK);
+    sets[0] = 9;
+    IS(pilhangko_plan_sets(NULL, 1, sets), PILHANGKO_NULL_POINTER);
+    IS(pilhangko_plan_sets(needs, 1, NULL), PILHANGKO_NULL_POINTER);
+    IS(pilhangko_raw_plan_sets(needs, 2, sets, 1), PILHANGKO_INVALID);
+    IS(pilhangko_raw_plan_sets(needs, 1, sets, 2), PILHANGKO_INVALID);
+    CHECK(sets[0] == 9);
+}
+
+static void has_memory(const pilhangko_plan_resource *r, size_t count, uint64_t heap_size, uint64_t size, uint64_t alignment, pilhangko_kind kind) {
+    pilhangko_heap_memory memory = {7, 8, (pilhangko_kind)9};
+    IS(pilhangko_plan_memory(r, count, heap_size, KB, &memory), PILHANGKO_OK);
+    CHECK(memory.size == size && memory.alignment == alignment && memory.kind == kind);
+}
+
+static void memory_of_heaps(void) {
+    const pilhangko_plan_resource r[] = {image(100, 4, 0, 0), image(60, 16, 0, 1), linear(8, 8, 1, 1), linear(4, 4096, 1, 1)};
+    const pilhangko_plan_resource bad = linear(0, 1, 0, 0);
+    pilhangko_heap_memory memory = {7, 8, (pilhangko_kind)9};
+    has_memory(r, 2, 160, 160, 16, PILHANGKO_KIND_NON_LINEAR);
+    has_memory(r + 2, 1, 8, 8, 8, PILHANGKO_KIND_LINEAR);
+    has_memory(r, 3, 160, KB, KB, PILHANGKO_KIND_NON_LINEAR);
+    has_memory(r, 3, KB, KB, KB, PILHANGKO_KIND_NON_LINEAR);
+    has_memory(r, 4, KB + 1, 2 * KB, 4096, PILHANGKO_KIND_NON_LINEAR);
+    has_memory(r, 1, UINT64_MAX, UINT64_MAX, 4, PILHANGKO_KIND_NON_LINEAR);
+    has_memory(NULL, 0, 0, 0, 1, PILHANGKO_KIND_LINEAR);
+    IS(pilhangko_plan_memory(r, 3, UINT64_MAX - KB + 2, KB, &memory), PILHANGKO_OUT_OF_MEMORY);
+    IS(pilhangko_plan_memory(r, 3, 160, 0, &memory), PILHANGKO_INVALID);
+    IS(pilhangko_plan_memory(r, 3, 160, 24, &memory), PILHANGKO_INVALID);
+    IS(pilhangko_plan_memory(&bad, 1, 160, KB, &memory), PILHANGKO_INVALID);
+    IS(pilhangko_plan_memory(NULL, 1, 160, KB, &memory), PILHANGKO_NULL_POINTER);
+    IS(pilhangko_plan_memory(r, 1, 160, KB, NULL), PILHANGKO_NULL_POINTER);
+    CHECK(memory.size == 7 && memory.alignment == 8 && memory.kind == 9);
+}
+
 /* ---- random plans ---- */
 
 static pilhangko_plan_resource resources[MOST_RESOURCES];
@@ -150,6 +194,29 @@ static void random_plans(void) {
 
 static unsigned refusals;
 
+/* the sets of so many resources, and the memory of their heap */
+static void gathered_once(size_t count) {
+    static const pilhangko_memory_needs needs[] = {{1, false}, {2, false}, {3, false}};
+    size_t sets[3] = {9, 9, 9};
+    pilhangko_heap_memory memory = {7, 8, PILHANGKO_KIND_LINEAR};
+    pilhangko_status status = pilhangko_plan_sets(needs, 3, sets);
+    if (status == PILHANGKO_HOST_OUT_OF_MEMORY) {
+        refusals++;
+        CHECK(sets[0] == 9 && sets[1] == 9 && sets[2] == 9);
+        status = pilhangko_plan_sets(needs, 3, sets);
+    }
+    IS(status, PILHANGKO_OK);
+    CHECK(sets[0] == 0 && sets[1] == 1 && sets[2] == 0);
+    status = pilhangko_plan_memory(resources, count, 5 * KB - 1, KB, &memory);
+    if (status == PILHANGKO_HOST_OUT_OF_MEMORY) {
+        refusals++;
+        CHECK(memory.size == 7 && memory.alignment == 8 && memory.kind == PILHANGKO_KIND_LINEAR);
+        status = pilhangko_plan_memory(resources, count, 5 * KB - 1, KB, &memory);
+    }
+    IS(status, PILHANGKO_OK);
+    CHECK(memory.size == 5 * KB && memory.alignment == KB && memory.kind == PILHANGKO_KIND_NON_LINEAR);
+}
+
 /* the calls that a plan's user makes; any refusal leaves what they write to */
 static void planned_once(size_t count) {
     static uint64_t written[MOST_RESOURCES];
@@ -174,6 +241,7 @@ static void planned_once(size_t count) {
         status = pilhangko_plan_reuses(resources, count, written, count - 1, reused, count, &many);
     }
     IS(status, PILHANGKO_OK);
+    gathered_once(count);
 }
 
 static void refused(void) {
@@ -206,6 +274,8 @@ int main(void) {
     shares_memory();
     keeps_pages_apart();
     statuses();
+    joins_sets();
+    memory_of_heaps();
     random_plans();
     refused();
     return 0;

@@ -136,11 +136,63 @@ static void allocators(void) {
     IS(pilhangko_allocator_destroy(&allocator), PILHANGKO_OK);
 }
 
+static bool heaps_have(const pilhangko_heaps *heaps, uint64_t capacity, size_t committed) {
+    pilhangko_heaps_committed_statistics s;
+    uint64_t bytes;
+    return pilhangko_heaps_capacity(heaps, &bytes) == PILHANGKO_OK && bytes == capacity &&
+           pilhangko_heaps_committed_of(heaps, 0, &s) == PILHANGKO_OK && s.count == committed;
+}
+
+static void committed_resources(pilhangko_heaps *heaps, uint64_t capacity) {
+    pilhangko_heaps_committed committed[12];
+    for (unsigned i = 0; i < 12; i++) {
+        TRIED(pilhangko_heaps_begin_committed(heaps, 1 + i, PILHANGKO_LOCATION_GPU_ONLY, PILHANGKO_CATEGORY_BUFFER),
+            heaps_have(heaps, capacity, i) && pilhangko_heaps_not_made(heaps) == PILHANGKO_AWAITS_NO_ANSWER);
+        long before = heap_requests;
+        IS(pilhangko_heaps_made(heaps, i, &committed[i]), PILHANGKO_OK);
+        CHECK(heap_requests == before); /* made takes no memory */
+    }
+    long before = heap_requests;
+    for (unsigned i = 0; i < 12; i++) IS(pilhangko_heaps_forget_committed(heaps, &committed[i]), PILHANGKO_OK);
+    CHECK(heap_requests == before && heaps_have(heaps, capacity, 0));
+}
+
+static void all_heaps(void) {
+    pilhangko_heaps heaps = {0};
+    const pilhangko_heaps_settings settings = {1, 4 * MB, 0, 4 * MB, 0};
+    pilhangko_heaps_piece pieces[12];
+    TRIED(pilhangko_heaps_create(&heaps, &settings), pilhangko_heaps_destroy(&heaps) == PILHANGKO_NO_HANDLE);
+    uint64_t capacity = 0;
+    for (unsigned i = 0; i < 12; i++) {
+        pilhangko_heaps_request request = {i % 3 ? MB : 4 * MB, 1, 2 + i % 2, 1 + i % 4 / 3};
+        pilhangko_heaps_progress progress = {.kind = 9};
+        TRIED(pilhangko_heaps_begin(&heaps, &request, "a name that takes memory of its own", &progress),
+            heaps_have(&heaps, capacity, 0) && progress.kind == 9);
+        pieces[i] = progress.piece;
+        if (progress.kind == PILHANGKO_PROGRESS_QUESTION) {
+            long before = heap_requests;
+            IS(pilhangko_heaps_granted(&heaps, i, &pieces[i]), PILHANGKO_OK);
+            CHECK(heap_requests == before); /* granted takes no memory */
+            capacity += progress.question.size;
+        }
+    }
+    for (unsigned i = 0; i < 12; i++)
+        TRIED(
+            pilhangko_heaps_rename(&heaps, &pieces[i], "another name that takes memory of its own"), heaps_have(&heaps, capacity, 0));
+    committed_resources(&heaps, capacity);
+    long before = heap_requests;
+    pilhangko_memory_block back;
+    for (unsigned i = 0; i < 12; i++) IS(pilhangko_heaps_free(&heaps, &pieces[i], &back), PILHANGKO_OK);
+    CHECK(heap_requests == before);
+    IS(pilhangko_heaps_destroy(&heaps), PILHANGKO_OK);
+}
+
 int main(void) {
     virtual_blocks();
     rings();
     memory_types();
     allocators();
+    all_heaps();
     long ample = heap_requests;
     CHECK(refusals == 0 && heap_held == 0 && ample > 0);
     for (long n = 1; n <= ample; n++) {
@@ -151,6 +203,7 @@ int main(void) {
         rings();
         memory_types();
         allocators();
+        all_heaps();
         CHECK(refusals == before + 1);
         CHECK(heap_held == 0);
     }

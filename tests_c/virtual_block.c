@@ -277,7 +277,8 @@ static void status_words(void) {
         PILHANGKO_HOST_OUT_OF_MEMORY, PILHANGKO_BUDGET_EXCEEDED, PILHANGKO_NO_HANDLE, PILHANGKO_IN_USE, PILHANGKO_AWAITS_BLOCK,
         PILHANGKO_AWAITS_NO_BLOCK, PILHANGKO_NULL_POINTER, PILHANGKO_FAILED_TO_MAP, PILHANGKO_NO_MEMORY_TYPE, PILHANGKO_INVALID_DEVICE,
         PILHANGKO_DRIVER_REFUSED, PILHANGKO_NO_SUCH_TYPE, PILHANGKO_TOO_MANY_TYPES, PILHANGKO_NO_SUCH_HEAP, PILHANGKO_AWAITS_ANSWER,
-        PILHANGKO_AWAITS_NO_ANSWER, PILHANGKO_TOO_MANY_FRAMES, 7};
+        PILHANGKO_AWAITS_NO_ANSWER, PILHANGKO_TOO_MANY_FRAMES, PILHANGKO_LAYOUT_NEEDS_DEVICE10, PILHANGKO_FORMATS_NEED_LAYOUT,
+        PILHANGKO_FORMATS_NEED_DEVICE12, 16};
     const size_t count = sizeof statuses / sizeof statuses[0];
     for (size_t i = 0; i < count; i++)
         for (size_t j = 0; j < i; j++) {
@@ -285,7 +286,7 @@ static void status_words(void) {
             CHECK(strcmp(pilhangko_status_text(statuses[i]), pilhangko_status_text(statuses[j])) != 0);
         }
     CHECK(!strcmp(pilhangko_status_name(PILHANGKO_BUDGET_EXCEEDED), "PILHANGKO_BUDGET_EXCEEDED"));
-    CHECK(!strcmp(pilhangko_status_name(7), "unknown status") && !strcmp(pilhangko_status_text(7), "unknown status"));
+    CHECK(!strcmp(pilhangko_status_name(16), "unknown status") && !strcmp(pilhangko_status_text(16), "unknown status"));
 }
 
 int main(void) {

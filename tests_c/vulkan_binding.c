@@ -6,14 +6,6 @@
 #define MB (UINT64_C(1) << 20)
 #define OK ((pilhangko_status)PILHANGKO_OK)
 
-static pilhangko_vulkan made(void) {
-    pilhangko_vulkan vulkan = {0};
-    const pilhangko_vulkan_settings settings = fake_settings();
-    fake_begin();
-    IS(pilhangko_vulkan_create(&vulkan, &settings), PILHANGKO_OK);
-    return vulkan;
-}
-
 /* Nothing may be left but the leaks that are told, of the driver's and of the host's. */
 static void ends(pilhangko_vulkan *vulkan, uint64_t leaks) {
     pilhangko_vulkan_ending ending = {99, {9, 9}};
@@ -25,14 +17,8 @@ static void ends(pilhangko_vulkan *vulkan, uint64_t leaks) {
 }
 
 static pilhangko_vulkan_request asks(uint64_t size, uint32_t bits, pilhangko_location location) {
-    pilhangko_vulkan_request request;
-    memset(&request, 0, sizeof request);
-    request.requirements.size = size;
-    request.requirements.alignment = 4;
-    request.requirements.memoryTypeBits = bits;
+    pilhangko_vulkan_request request = fake_request(size, 4, bits);
     request.location = location;
-    request.kind = PILHANGKO_KIND_LINEAR;
-    request.scheme = PILHANGKO_SCHEME_MANAGED;
     request.name = "row";
     return request;
 }
@@ -52,7 +38,7 @@ static void is_at(const pilhangko_vulkan_allocation *a, uint64_t memory, VkDevic
 /* ---- rows */
 
 static void memory_rows(void) {
-    pilhangko_vulkan vulkan = made();
+    pilhangko_vulkan vulkan = fake_binding();
     const pilhangko_vulkan_request device = asks(100, 31, PILHANGKO_LOCATION_GPU_ONLY),
                                    upload = asks(50, 31, PILHANGKO_LOCATION_CPU_TO_GPU),
                                    readback = asks(60, 31, PILHANGKO_LOCATION_GPU_TO_CPU),
@@ -89,7 +75,7 @@ static void is_flushed(VkDeviceMemory memory, VkDeviceSize offset, VkDeviceSize 
 }
 
 static void flush_rows(void) {
-    pilhangko_vulkan vulkan = made();
+    pilhangko_vulkan vulkan = fake_binding();
     pilhangko_vulkan_request shared = asks(100, 8, PILHANGKO_LOCATION_UNKNOWN), odd = asks(9 * MB + 1000, 8, PILHANGKO_LOCATION_UNKNOWN),
                              coherent = asks(100, 2, PILHANGKO_LOCATION_UNKNOWN);
     const pilhangko_vulkan_allocation a = allocates(&vulkan, &shared), b = allocates(&vulkan, &shared), own = allocates(&vulkan, &odd),
@@ -129,7 +115,7 @@ static void refuses_next(uint64_t which, enum fake_answer answer, VkResult code)
 
 /* Copies flush and invalidate as much as they copy. */
 static void copy_rows(void) {
-    pilhangko_vulkan vulkan = made();
+    pilhangko_vulkan vulkan = fake_binding();
     const pilhangko_vulkan_request shared = asks(100, 8, PILHANGKO_LOCATION_UNKNOWN), coherent = asks(100, 2, PILHANGKO_LOCATION_UNKNOWN),
                                    unseen = asks(100, 1, PILHANGKO_LOCATION_UNKNOWN);
     const pilhangko_vulkan_allocation first = allocates(&vulkan, &shared), a = allocates(&vulkan, &shared), c = allocates(&vulkan, &coherent),
@@ -308,7 +294,8 @@ static void texts(void) {
         CHECK(!strncmp(pilhangko_status_name(status), "PILHANGKO_VULKAN_", 17));
         CHECK(strcmp(pilhangko_status_text(status), "unknown status"));
     }
-    CHECK(!strcmp(pilhangko_status_text(PILHANGKO_INVALID_DEVICE), "invalid device: the page size is no power of two"));
+    CHECK(!strcmp(pilhangko_status_text(PILHANGKO_INVALID_DEVICE),
+        "invalid device: the page size is no power of two, or the resource heap tier is 0"));
     CHECK(!strcmp(pilhangko_status_text(PILHANGKO_VULKAN_INVALID_ATOM_SIZE), "invalid device: nonCoherentAtomSize is no power of two"));
     CHECK(!strcmp(pilhangko_status_text(PILHANGKO_VULKAN_TOO_MANY_HEAPS), "invalid device: more than 16 memory heaps"));
     CHECK(!strcmp(pilhangko_status_text(309), "unknown status") && !strcmp(pilhangko_status_name(309), "unknown status"));
@@ -402,7 +389,7 @@ static void each_small_call(pilhangko_vulkan *v, bool tells, pilhangko_status ex
 }
 
 static void empty_handles_and_null(void) {
-    pilhangko_vulkan empty = {0}, vulkan = made();
+    pilhangko_vulkan empty = {0}, vulkan = fake_binding();
     each_call(&empty, 0, PILHANGKO_NO_HANDLE);
     each_call(NULL, 0, PILHANGKO_NULL_POINTER);
     each_call(&empty, 1, PILHANGKO_NULL_POINTER);
@@ -416,7 +403,7 @@ static void empty_handles_and_null(void) {
 }
 
 static void invalid_requests(void) {
-    pilhangko_vulkan vulkan = made();
+    pilhangko_vulkan vulkan = fake_binding();
     const pilhangko_vulkan_request good = asks(100, 31, PILHANGKO_LOCATION_GPU_ONLY);
     pilhangko_vulkan_allocation a;
     for (unsigned field = 0; field < 13; field++) {
@@ -441,7 +428,7 @@ static void invalid_requests(void) {
 }
 
 static void invalid_resources(void) {
-    pilhangko_vulkan vulkan = made();
+    pilhangko_vulkan vulkan = fake_binding();
     VkBufferCreateInfo sparse = buffer_of(10);
     VkImageCreateInfo disjoint = image_of(10, VK_IMAGE_TILING_LINEAR);
     pilhangko_vulkan_placement astray = on_gpu;
@@ -463,7 +450,7 @@ static void invalid_resources(void) {
 }
 
 static void causes_without_a_question(void) {
-    pilhangko_vulkan vulkan = made();
+    pilhangko_vulkan vulkan = fake_binding();
     pilhangko_vulkan_request r = asks(100, 32, PILHANGKO_LOCATION_UNKNOWN); /* a memory type that isn't there */
     pilhangko_vulkan_allocation a;
     pilhangko_vulkan_capture capture;
@@ -488,7 +475,7 @@ static void causes_without_a_question(void) {
 
 /* Allocations of another binding, and pieces that are made up, are refused before anything of them is believed. */
 static void foreign_allocations(void) {
-    pilhangko_vulkan vulkan = made(), other = {0};
+    pilhangko_vulkan vulkan = fake_binding(), other = {0};
     const pilhangko_vulkan_settings settings = fake_settings();
     const pilhangko_vulkan_request r = asks(100, 2, PILHANGKO_LOCATION_UNKNOWN);
     IS(pilhangko_vulkan_create(&other, &settings), PILHANGKO_OK);
@@ -529,14 +516,14 @@ static void foreign_allocations(void) {
 /* An allocation of a binding that was destroyed isn't a later one's, though that may lie where the first one lay. */
 static void allocations_of_a_predecessor(void) {
     const pilhangko_vulkan_request r = asks(100, 2, PILHANGKO_LOCATION_UNKNOWN);
-    pilhangko_vulkan vulkan = made();
+    pilhangko_vulkan vulkan = fake_binding();
     const pilhangko_vulkan_allocation old = allocates(&vulkan, &r);
     const void *const place = vulkan.opaque;
     bool came_again = false;
     ends(&vulkan, 1);
     for (unsigned i = 0; i < 50; i++) {
         bool live = true;
-        vulkan = made();
+        vulkan = fake_binding();
         came_again |= vulkan.opaque == place;
         const pilhangko_vulkan_allocation young = allocates(&vulkan, &r);
         CHECK(young.serial == old.serial && young.index == old.index && young.memory == old.memory && young.owner > old.owner);
@@ -552,7 +539,7 @@ static void allocations_of_a_predecessor(void) {
 
 /* An allocation that was freed stays refused, also where another one has the same piece. */
 static void stale_allocations(void) {
-    pilhangko_vulkan vulkan = made();
+    pilhangko_vulkan vulkan = fake_binding();
     const pilhangko_vulkan_request small = asks(100, 1, PILHANGKO_LOCATION_UNKNOWN), large = asks(20 * MB, 1, PILHANGKO_LOCATION_UNKNOWN);
     const pilhangko_vulkan_allocation first = allocates(&vulkan, &small), beside = allocates(&vulkan, &small);
     pilhangko_vulkan_allocation gone[40];
@@ -572,7 +559,7 @@ static void stale_allocations(void) {
 
 /* What the allocator behind the binding tells of its blocks and pieces. */
 static void readings(void) {
-    pilhangko_vulkan vulkan = made();
+    pilhangko_vulkan vulkan = fake_binding();
     const pilhangko_vulkan_request r = asks(100, 2, PILHANGKO_LOCATION_UNKNOWN);
     const pilhangko_vulkan_allocation a = allocates(&vulkan, &r), b = allocates(&vulkan, &r);
     const pilhangko_allocator *allocator = pilhangko_vulkan_allocator(&vulkan);
@@ -607,7 +594,7 @@ static void is_refused(pilhangko_vulkan *vulkan, const pilhangko_vulkan_request 
 }
 
 static void driver_refusals(void) {
-    pilhangko_vulkan vulkan = made();
+    pilhangko_vulkan vulkan = fake_binding();
     const pilhangko_vulkan_request device = asks(100, 1, PILHANGKO_LOCATION_UNKNOWN), host = asks(100, 2, PILHANGKO_LOCATION_UNKNOWN),
                                    large = asks(6 * MB, 1, PILHANGKO_LOCATION_UNKNOWN),
                                    upload = asks(100, 31, PILHANGKO_LOCATION_CPU_TO_GPU);
@@ -710,7 +697,7 @@ static void each_question_refused(void) {
     unsigned failed = 0, passed = 0;
     for (unsigned way = 0; way < 4; way++) {
         for (uint64_t question = 1;; question++) {
-            pilhangko_vulkan vulkan = made();
+            pilhangko_vulkan vulkan = fake_binding();
             pilhangko_vulkan_result last = {PILHANGKO_OK, VK_SUCCESS};
             fake.refusals[0] = ways[way];
             fake.refusals[0].question = question;

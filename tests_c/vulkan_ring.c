@@ -9,14 +9,6 @@
 static const pilhangko_vulkan_placement uploads = {PILHANGKO_LOCATION_CPU_TO_GPU, false, "uploads"};
 static const pilhangko_vulkan_placement anywhere = {PILHANGKO_LOCATION_UNKNOWN, false, "uploads"};
 
-static pilhangko_vulkan made(void) {
-    pilhangko_vulkan vulkan = {0};
-    const pilhangko_vulkan_settings settings = fake_settings();
-    fake_begin();
-    IS(pilhangko_vulkan_create(&vulkan, &settings), PILHANGKO_OK);
-    return vulkan;
-}
-
 /* Nothing may be left, of the driver's and of the host's. */
 static void ends(pilhangko_vulkan *vulkan) {
     pilhangko_vulkan_ending ending = {99, {9, 9}};
@@ -61,7 +53,7 @@ static void holds(const pilhangko_vulkan_ring *ring, uint64_t taken, size_t fram
 /* ---- rows */
 
 static void coherent_rows(void) {
-    pilhangko_vulkan vulkan = made();
+    pilhangko_vulkan vulkan = fake_binding();
     pilhangko_vulkan_ring first = rings(&vulkan, 5000, 1, uploads), ring = rings(&vulkan, 1000, 2, uploads);
     pilhangko_vulkan_ring_piece piece = {7, NULL};
     uint64_t frame = 77;
@@ -94,7 +86,7 @@ static void is_flushed(const pilhangko_vulkan_ring *ring, VkDeviceSize offset, V
 
 /* memory type 3 alone, which needs flushes of whole atoms of 64 bytes */
 static void flushed_rows(void) {
-    pilhangko_vulkan vulkan = made();
+    pilhangko_vulkan vulkan = fake_binding();
     fake.type_bits = 8;
     pilhangko_vulkan_ring ring = rings(&vulkan, 1000, 2, anywhere);
     IS(pilhangko_vulkan_ring_flush(&vulkan, &ring).status, OK);
@@ -129,7 +121,7 @@ static void is_refused(
 }
 
 static void creations(void) {
-    pilhangko_vulkan vulkan = made(), none = {0};
+    pilhangko_vulkan vulkan = fake_binding(), none = {0};
     pilhangko_vulkan_ring ring = {0};
     const pilhangko_vulkan_placement unseen = {PILHANGKO_LOCATION_GPU_ONLY, false, NULL},
                                      bad = {PILHANGKO_LOCATION_CPU_TO_GPU, false, "\xff"};
@@ -149,7 +141,7 @@ static void creations(void) {
 }
 
 static void empty_rings_and_null(void) {
-    pilhangko_vulkan vulkan = made(), none = {0};
+    pilhangko_vulkan vulkan = fake_binding(), none = {0};
     pilhangko_vulkan_ring ring = {0};
     pilhangko_vulkan_ring_piece piece;
     const pilhangko_vulkan_ring_settings settings = settings_of(1000, 1, uploads);
@@ -181,7 +173,7 @@ static void empty_rings_and_null(void) {
 }
 
 static void another_bindings_ring(void) {
-    pilhangko_vulkan vulkan = made(), other = {0};
+    pilhangko_vulkan vulkan = fake_binding(), other = {0};
     const pilhangko_vulkan_settings settings = fake_settings();
     IS(pilhangko_vulkan_create(&other, &settings), OK);
     pilhangko_vulkan_ring ring = rings(&vulkan, 1000, 1, uploads);
@@ -231,14 +223,14 @@ static unsigned script(pilhangko_vulkan *vulkan, pilhangko_vulkan_result *last) 
 
 static void each_question_refused(void) {
     pilhangko_vulkan_result last;
-    pilhangko_vulkan vulkan = made();
+    pilhangko_vulkan vulkan = fake_binding();
     fake.type_bits = 8;
     CHECK(script(&vulkan, &last) == 0);
     const uint64_t ample = fake.questions;
     CHECK(ample == 6); /* the buffer, its memory, its mapping, its binding, and two flushes */
     ends(&vulkan);
     for (uint64_t n = 1; n <= ample; n++) {
-        vulkan = made();
+        vulkan = fake_binding();
         fake.type_bits = 8;
         fake.refusals[0] = (struct fake_refusal){n, FAKE_REFUSES, VK_ERROR_OUT_OF_DEVICE_MEMORY};
         CHECK(script(&vulkan, &last) == 1);
@@ -251,7 +243,7 @@ static void each_question_refused(void) {
 
 static void each_host_request_refused(void) {
     pilhangko_vulkan_result last;
-    pilhangko_vulkan vulkan = made();
+    pilhangko_vulkan vulkan = fake_binding();
     fake.type_bits = 8;
     heap_requests = 0;
     CHECK(script(&vulkan, &last) == 0);
@@ -259,7 +251,7 @@ static void each_host_request_refused(void) {
     CHECK(ample > 0);
     ends(&vulkan);
     for (long n = 1; n <= ample; n++) {
-        vulkan = made();
+        vulkan = fake_binding();
         fake.type_bits = 8;
         heap_requests = 0;
         heap_refused = n;

@@ -10,14 +10,7 @@
 static pilhangko_vulkan vulkan;
 
 static pilhangko_vulkan_request asks(uint64_t size, uint32_t bits) {
-    pilhangko_vulkan_request request;
-    memset(&request, 0, sizeof request);
-    request.requirements.size = size;
-    request.requirements.alignment = 16;
-    request.requirements.memoryTypeBits = bits;
-    request.location = PILHANGKO_LOCATION_UNKNOWN;
-    request.kind = PILHANGKO_KIND_LINEAR;
-    request.scheme = PILHANGKO_SCHEME_MANAGED;
+    pilhangko_vulkan_request request = fake_request(size, 16, bits);
     request.name = "a name that takes host memory of its own";
     return request;
 }

@@ -123,9 +123,9 @@ static void shares_memory(void) {
     ends(&vulkan);
 }
 
-static void statuses(void) {
-    pilhangko_vulkan vulkan = made(), none = {0}, other = {0};
-    const pilhangko_vulkan_settings settings = fake_settings();
+/* Null pointers, and handles of nothing; no resources are no sets. */
+static void statuses_of_pointers(void) {
+    pilhangko_vulkan vulkan = made(), none = {0};
     pilhangko_vulkan_transient t = {0};
     size_t count;
     ask_buffer(0, 64, 0, 1);
@@ -138,7 +138,19 @@ static void statuses(void) {
     IS(pilhangko_vulkan_destroy_transient(&vulkan, NULL), PILHANGKO_NULL_POINTER);
     IS(create(&vulkan, 0, &t).status, PILHANGKO_OK);
     CHECK(!t.places && fake.questions == 0);
-    asked[0].first_pass = 2;
+    IS(create(&vulkan, 1, &t).status, PILHANGKO_OK);
+    IS(pilhangko_vulkan_transient_reuses(NULL, 0, NULL, 0, &count), PILHANGKO_NULL_POINTER);
+    IS(pilhangko_vulkan_transient_reuses(&t, 0, NULL, 1, &count), PILHANGKO_NULL_POINTER);
+    IS(pilhangko_vulkan_transient_reuses(&t, 0, NULL, 0, NULL), PILHANGKO_NULL_POINTER);
+    IS(pilhangko_vulkan_destroy_transient(&vulkan, &t), PILHANGKO_OK);
+    ends(&vulkan);
+}
+
+/* What can't be made, or has no memory: nothing is left of it. */
+static void statuses_of_resources(void) {
+    pilhangko_vulkan vulkan = made();
+    pilhangko_vulkan_transient t = {0};
+    ask_buffer(0, 64, 2, 1);
     IS(create(&vulkan, 1, &t).status, PILHANGKO_INVALID);
     ask_buffer(0, 64, 0, 1);
     buffer_infos[0].flags = VK_BUFFER_CREATE_SPARSE_BINDING_BIT;
@@ -158,12 +170,17 @@ static void statuses(void) {
     IS(pilhangko_vulkan_create_transient(&vulkan, asked, 1, PILHANGKO_LOCATION_CPU_TO_GPU, NULL, &t).status, PILHANGKO_NO_MEMORY_TYPE);
     types_differ = false;
     CHECK(fake.resource_count == 0 && !t.places);
+    ends(&vulkan);
+}
+
+/* Sets that are there already, and those of another binding: nothing is destroyed. */
+static void statuses_of_sets(void) {
+    pilhangko_vulkan vulkan = made(), other = {0};
+    const pilhangko_vulkan_settings settings = fake_settings();
+    pilhangko_vulkan_transient t = {0};
+    ask_buffer(0, 64, 0, 1);
     IS(create(&vulkan, 1, &t).status, PILHANGKO_OK);
     IS(create(&vulkan, 1, &t).status, PILHANGKO_IN_USE);
-    IS(pilhangko_vulkan_transient_reuses(NULL, 0, NULL, 0, &count), PILHANGKO_NULL_POINTER);
-    IS(pilhangko_vulkan_transient_reuses(&t, 0, NULL, 1, &count), PILHANGKO_NULL_POINTER);
-    IS(pilhangko_vulkan_transient_reuses(&t, 0, NULL, 0, NULL), PILHANGKO_NULL_POINTER);
-    /* another binding's: nothing is destroyed */
     IS(pilhangko_vulkan_create(&other, &settings), PILHANGKO_OK);
     IS(pilhangko_vulkan_destroy_transient(&other, &t), PILHANGKO_NOT_LIVE);
     CHECK(t.place_count == 1 && fake.resource_count == 1);
@@ -347,7 +364,9 @@ static void each_request_refused(void) {
 
 int main(void) {
     shares_memory();
-    statuses();
+    statuses_of_pointers();
+    statuses_of_resources();
+    statuses_of_sets();
     random_sets();
     each_question_refused();
     each_request_refused();
