@@ -628,12 +628,21 @@ static void visits(void) {
 
 /* ---- empty handles, and pointers that are NULL */
 
+static void each_committed_call(pilhangko_heaps *h, bool tells, pilhangko_status expected) {
+    pilhangko_heaps_committed committed = {0, 1, 1};
+    pilhangko_heaps_committed_statistics records;
+    IS(pilhangko_heaps_made(h, 1, tells ? &committed : NULL), expected);
+    IS(pilhangko_heaps_committed_of(h, 0, tells ? &records : NULL), expected);
+    if (!tells) return;
+    IS(pilhangko_heaps_begin_committed(h, 1, PILHANGKO_LOCATION_GPU_ONLY, PILHANGKO_CATEGORY_BUFFER), expected);
+    IS(pilhangko_heaps_not_made(h), expected);
+    IS(pilhangko_heaps_forget_committed(h, &committed), expected);
+}
+
 static void each_call(pilhangko_heaps *h, bool tells, pilhangko_status expected) {
     pilhangko_heaps_request r = asks_device(100);
     pilhangko_heaps_progress p;
     pilhangko_heaps_piece piece = {0, {0, 1, 0, 1, 1}};
-    pilhangko_heaps_committed committed = {0, 1, 1};
-    pilhangko_heaps_committed_statistics records;
     pilhangko_memory_block shown;
     pilhangko_budget budget;
     pilhangko_type_statistics type;
@@ -648,8 +657,6 @@ static void each_call(pilhangko_heaps *h, bool tells, pilhangko_status expected)
     IS(pilhangko_heaps_refused(h, -2, tells ? &p : NULL), expected);
     IS(pilhangko_heaps_free(h, &piece, tells ? &shown : NULL), expected);
     IS(pilhangko_heaps_is_live(h, &piece, tells ? &live : NULL), expected);
-    IS(pilhangko_heaps_made(h, 1, tells ? &committed : NULL), expected);
-    IS(pilhangko_heaps_committed_of(h, 0, tells ? &records : NULL), expected);
     IS(pilhangko_heaps_type_count(h, tells ? &count : NULL), expected);
     IS(pilhangko_heaps_budget(h, 0, tells ? &budget : NULL), expected);
     IS(pilhangko_heaps_capacity(h, tells ? &bytes : NULL), expected);
@@ -664,9 +671,6 @@ static void each_call(pilhangko_heaps *h, bool tells, pilhangko_status expected)
     IS(pilhangko_heaps_leak(h, 0, text, 1, tells ? &count : NULL), expected);
     if (!tells) return;
     IS(pilhangko_heaps_rename(h, &piece, NULL), expected);
-    IS(pilhangko_heaps_begin_committed(h, 1, PILHANGKO_LOCATION_GPU_ONLY, PILHANGKO_CATEGORY_BUFFER), expected);
-    IS(pilhangko_heaps_not_made(h), expected);
-    IS(pilhangko_heaps_forget_committed(h, &committed), expected);
     IS(pilhangko_heaps_set_budget(h, 0, true, 1), expected);
     IS(pilhangko_heaps_destroy(h), expected);
 }
@@ -681,6 +685,9 @@ static void empty_handles_and_null(void) {
     each_call(&h, true, PILHANGKO_NO_HANDLE);
     each_call(NULL, true, PILHANGKO_NULL_POINTER);
     each_call(&h, false, PILHANGKO_NULL_POINTER);
+    each_committed_call(&h, true, PILHANGKO_NO_HANDLE);
+    each_committed_call(NULL, true, PILHANGKO_NULL_POINTER);
+    each_committed_call(&h, false, PILHANGKO_NULL_POINTER);
     IS(pilhangko_heaps_create(NULL, &settings), PILHANGKO_NULL_POINTER);
     IS(pilhangko_heaps_create(&h, NULL), PILHANGKO_NULL_POINTER);
     IS(pilhangko_heaps_begin(&h, NULL, NULL, &p), PILHANGKO_NULL_POINTER);
