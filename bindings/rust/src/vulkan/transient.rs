@@ -101,9 +101,9 @@ impl Transient {
 
 impl Allocator {
     /// Allocates memory that resources share which are never alive in one pass. In their order each one joins the first set with which it
-    /// shares a memory type that has what the location needs, or begins one; each set is planned ([`plan`]), and has one allocation.
+    /// shares a memory type that has what the location needs, or begins one; each set is planned ([`plan()`]), and has one allocation.
     ///
-    /// The errors, and then nothing is left: those of [`plan`], then those of [`Allocator::allocate`].
+    /// The errors, and then nothing is left: those of [`plan()`], then those of [`Allocator::allocate`].
     pub fn allocate_transient(&mut self, desc: &TransientCreateDesc<'_>) -> Result<Transient> {
         let mut transient = Transient { sets: Vec::new(), places: Vec::new() };
         let result = self.fill(desc, &mut transient);
