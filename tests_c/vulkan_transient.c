@@ -354,7 +354,7 @@ static void each_request_refused(void) {
         }
         CHECK(count == 1 && reused[0] == 0);
         over = heap_requests < n;
-        CHECK(over || failed == n);
+        CHECK(over || (long)failed == n);
         heap_refused = 0;
         IS(pilhangko_vulkan_destroy_transient(&vulkan, &t), PILHANGKO_OK);
         ends(&vulkan);
