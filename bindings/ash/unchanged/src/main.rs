@@ -103,6 +103,48 @@ fn make_image(
     Ok((image, allocation))
 }
 
+fn barrier(
+    image: vk::Image,
+    (old, new): (vk::ImageLayout, vk::ImageLayout),
+    (src, dst): (vk::AccessFlags, vk::AccessFlags),
+) -> [vk::ImageMemoryBarrier<'static>; 1] {
+    let range =
+        vk::ImageSubresourceRange::default().aspect_mask(vk::ImageAspectFlags::COLOR).level_count(1).layer_count(1);
+    [vk::ImageMemoryBarrier::default()
+        .old_layout(old)
+        .new_layout(new)
+        .src_access_mask(src)
+        .dst_access_mask(dst)
+        .src_queue_family_index(vk::QUEUE_FAMILY_IGNORED)
+        .dst_queue_family_index(vk::QUEUE_FAMILY_IGNORED)
+        .image(image)
+        .subresource_range(range)]
+}
+
+/// Records the copies of upload to image to readback.
+fn record(d: &ash::Device, c: vk::CommandBuffer, from: vk::Buffer, image: vk::Image, to: vk::Buffer, side: u32) {
+    use vk::{AccessFlags as Access, DependencyFlags, ImageLayout as Layout, PipelineStageFlags as Stage};
+    let layers = vk::ImageSubresourceLayers::default().aspect_mask(vk::ImageAspectFlags::COLOR).layer_count(1);
+    let whole = [vk::BufferImageCopy::default().image_subresource(layers).image_extent(vk::Extent3D {
+        width: side,
+        height: side,
+        depth: 1,
+    })];
+    let none = DependencyFlags::empty();
+    let (dst, src) = (Layout::TRANSFER_DST_OPTIMAL, Layout::TRANSFER_SRC_OPTIMAL);
+    let write = barrier(image, (Layout::UNDEFINED, dst), (Access::empty(), Access::TRANSFER_WRITE));
+    let read = barrier(image, (dst, src), (Access::TRANSFER_WRITE, Access::TRANSFER_READ));
+    let seen =
+        [vk::MemoryBarrier::default().src_access_mask(Access::TRANSFER_WRITE).dst_access_mask(Access::HOST_READ)];
+    unsafe {
+        d.cmd_pipeline_barrier(c, Stage::TOP_OF_PIPE, Stage::TRANSFER, none, &[], &[], &write);
+        d.cmd_copy_buffer_to_image(c, from, image, dst, &whole);
+        d.cmd_pipeline_barrier(c, Stage::TRANSFER, Stage::TRANSFER, none, &[], &[], &read);
+        d.cmd_copy_image_to_buffer(c, image, src, to, &whole);
+        d.cmd_pipeline_barrier(c, Stage::TRANSFER, Stage::HOST, none, &seen, &[], &[]);
+    }
+}
+
 /// Copies upload to image to readback on the queue, and waits.
 fn copy_through(
     gpu: &Gpu,
@@ -112,57 +154,50 @@ fn copy_through(
     side: u32,
 ) -> Result<(), Box<dyn Error>> {
     let d = &gpu.device;
-    let range =
-        vk::ImageSubresourceRange::default().aspect_mask(vk::ImageAspectFlags::COLOR).level_count(1).layer_count(1);
-    let whole = [vk::BufferImageCopy::default()
-        .image_subresource(
-            vk::ImageSubresourceLayers::default().aspect_mask(vk::ImageAspectFlags::COLOR).layer_count(1),
-        )
-        .image_extent(vk::Extent3D { width: side, height: side, depth: 1 })];
-    let barrier = |old, new, src, dst| {
-        [vk::ImageMemoryBarrier::default()
-            .old_layout(old)
-            .new_layout(new)
-            .src_access_mask(src)
-            .dst_access_mask(dst)
-            .src_queue_family_index(vk::QUEUE_FAMILY_IGNORED)
-            .dst_queue_family_index(vk::QUEUE_FAMILY_IGNORED)
-            .image(image)
-            .subresource_range(range)]
-    };
+    let once = vk::CommandBufferBeginInfo::default().flags(vk::CommandBufferUsageFlags::ONE_TIME_SUBMIT);
     unsafe {
         let pool = d.create_command_pool(&vk::CommandPoolCreateInfo::default().queue_family_index(gpu.family), None)?;
         let c = d.allocate_command_buffers(
             &vk::CommandBufferAllocateInfo::default().command_pool(pool).command_buffer_count(1),
         )?[0];
-        d.begin_command_buffer(
-            c,
-            &vk::CommandBufferBeginInfo::default().flags(vk::CommandBufferUsageFlags::ONE_TIME_SUBMIT),
-        )?;
-        let (top, copy, host) =
-            (vk::PipelineStageFlags::TOP_OF_PIPE, vk::PipelineStageFlags::TRANSFER, vk::PipelineStageFlags::HOST);
-        let (none, write, read) =
-            (vk::AccessFlags::empty(), vk::AccessFlags::TRANSFER_WRITE, vk::AccessFlags::TRANSFER_READ);
-        let (undefined, dst, src) =
-            (vk::ImageLayout::UNDEFINED, vk::ImageLayout::TRANSFER_DST_OPTIMAL, vk::ImageLayout::TRANSFER_SRC_OPTIMAL);
-        d.cmd_pipeline_barrier(
-            c,
-            top,
-            copy,
-            vk::DependencyFlags::empty(),
-            &[],
-            &[],
-            &barrier(undefined, dst, none, write),
-        );
-        d.cmd_copy_buffer_to_image(c, from, image, dst, &whole);
-        d.cmd_pipeline_barrier(c, copy, copy, vk::DependencyFlags::empty(), &[], &[], &barrier(dst, src, write, read));
-        d.cmd_copy_image_to_buffer(c, image, src, to, &whole);
-        let seen = [vk::MemoryBarrier::default().src_access_mask(write).dst_access_mask(vk::AccessFlags::HOST_READ)];
-        d.cmd_pipeline_barrier(c, copy, host, vk::DependencyFlags::empty(), &seen, &[], &[]);
+        d.begin_command_buffer(c, &once)?;
+        record(d, c, from, image, to, side);
         d.end_command_buffer(c)?;
         d.queue_submit(gpu.queue, &[vk::SubmitInfo::default().command_buffers(&[c])], vk::Fence::null())?;
         d.queue_wait_idle(gpu.queue)?;
         d.destroy_command_pool(pool, None);
+    }
+    Ok(())
+}
+
+/// Fills a buffer, copies it through an image, and compares what comes back.
+fn copies(gpu: &Gpu, allocator: &Mutex<Allocator>) -> Result<(), Box<dyn Error>> {
+    const SIDE: u32 = 256;
+    let size = u64::from(SIDE * SIDE * 4);
+    let (send, receive) = (
+        vk::BufferUsageFlags::TRANSFER_SRC | vk::BufferUsageFlags::SHADER_DEVICE_ADDRESS,
+        vk::BufferUsageFlags::TRANSFER_DST,
+    );
+    let mut upload = make_buffer(&gpu.device, allocator, "upload", size, send, MemoryLocation::CpuToGpu)?;
+    let readback = make_buffer(&gpu.device, allocator, "readback", size, receive, MemoryLocation::GpuToCpu)?;
+    let (image, target) = make_image(&gpu.device, allocator, SIDE)?;
+    for (at, byte) in upload.allocation.mapped_slice_mut().ok_or("not mapped")?.iter_mut().enumerate() {
+        *byte = (at * 31 % 251) as u8;
+    }
+    copy_through(gpu, upload.buffer, image, readback.buffer, SIDE)?;
+    let (sent, got) = (
+        &upload.allocation.mapped_slice().unwrap()[..size as usize],
+        &readback.allocation.mapped_slice().unwrap()[..size as usize],
+    );
+    println!("the image came back whole: {}", sent == got);
+    let report = allocator.lock().unwrap().generate_report();
+    println!("{}", report.allocations.iter().map(|it| it.name.clone()).collect::<Vec<_>>().join(", "));
+    println!("{:?} dedicated {} null {}", target.memory_properties(), target.is_dedicated(), target.is_null());
+    unsafe { gpu.device.destroy_image(image, None) };
+    allocator.lock().unwrap().free(target)?;
+    for it in [upload, readback] {
+        unsafe { gpu.device.destroy_buffer(it.buffer, None) };
+        allocator.lock().unwrap().free(it.allocation)?;
     }
     Ok(())
 }
@@ -180,49 +215,7 @@ fn main() -> Result<(), Box<dyn Error>> {
     })?;
     // an engine shares it between threads
     let allocator = Arc::new(Mutex::new(allocator));
-
-    const SIDE: u32 = 256;
-    let size = u64::from(SIDE * SIDE * 4);
-    let usage = vk::BufferUsageFlags::TRANSFER_SRC | vk::BufferUsageFlags::SHADER_DEVICE_ADDRESS;
-    let mut upload = make_buffer(&gpu.device, &allocator, "upload", size, usage, MemoryLocation::CpuToGpu)?;
-    let readback = make_buffer(
-        &gpu.device,
-        &allocator,
-        "readback",
-        size,
-        vk::BufferUsageFlags::TRANSFER_DST,
-        MemoryLocation::GpuToCpu,
-    )?;
-    let (image, target) = make_image(&gpu.device, &allocator, SIDE)?;
-    for (at, byte) in upload.allocation.mapped_slice_mut().ok_or("not mapped")?.iter_mut().enumerate() {
-        *byte = (at * 31 % 251) as u8;
-    }
-    copy_through(&gpu, upload.buffer, image, readback.buffer, SIDE)?;
-    let (sent, got) = (
-        &upload.allocation.mapped_slice().unwrap()[..size as usize],
-        &readback.allocation.mapped_slice().unwrap()[..size as usize],
-    );
-    println!("the image came back whole: {}", sent == got);
-    println!(
-        "{}",
-        allocator
-            .lock()
-            .unwrap()
-            .generate_report()
-            .allocations
-            .iter()
-            .map(|it| it.name.clone())
-            .collect::<Vec<_>>()
-            .join(", ")
-    );
-    println!("{:?} dedicated {} null {}", target.memory_properties(), target.is_dedicated(), target.is_null());
-
-    unsafe { gpu.device.destroy_image(image, None) };
-    allocator.lock().unwrap().free(target)?;
-    for it in [upload, readback] {
-        unsafe { gpu.device.destroy_buffer(it.buffer, None) };
-        allocator.lock().unwrap().free(it.allocation)?;
-    }
+    copies(&gpu, &allocator)?;
     drop(allocator);
     unsafe {
         gpu.device.destroy_device(None);
