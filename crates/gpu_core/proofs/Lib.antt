@@ -22,3 +22,4 @@ pub mod Reporting
 pub mod Sizes
 pub mod StayLive
 pub mod Types
+pub mod Moving

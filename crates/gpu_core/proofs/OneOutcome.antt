@@ -43,7 +43,7 @@ served_or_not (free_list b) r o n (free_list new) shared t none = takes_or_none 
 served_or_not (free_list b) r o n (dedicated new) shared t none = t
 served_or_not (dedicated b) r o n new shared t none = false≢true shared
 
-slot_served : {H : Type 0} (old : List (Option (Slot H))) (r : Request) (p : Piece H) (new : List (Option (Slot H))) → PreparesPiece old r p new → CannotServe r (slot_at old p.slot) → ⊥
+pub slot_served : {H : Type 0} (old : List (Option (Slot H))) (r : Request) (p : Piece H) (new : List (Option (Slot H))) → PreparesPiece old r p new → CannotServe r (slot_at old p.slot) → ⊥
 slot_served old r p new t none = served_or_not t.slot.block r p.offset (non_zero_u64_get p.chunk_id) t.after t.shared t.takes (subst (CannotServe r) t.at none)
 
 one_slot : {H : Type 0} (old : List (Option (Slot H))) (r : Request) (p q : Piece H) (new next : List (Option (Slot H))) → PreparesPiece old r p new → PreparesPiece old r q next → p.slot ≡ q.slot

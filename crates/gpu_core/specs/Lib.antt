@@ -45,3 +45,4 @@ pub mod Reports
 pub mod Leaks
 pub mod Held
 pub mod Apart
+pub mod Moves

@@ -1,5 +1,5 @@
 -- What a request leads to in a memory type: a piece of a shared block, or the need of a new block.
-use Rattle.std.specs.Prelude.{◌≡◌, ℕ, ◌<◌, ◌||◌, ◌++◌, nat_lt, Bool, true, false, List, [], ◌∷◌, length, Option, Some, None, cond}
+use Rattle.std.specs.Prelude.{◌≡◌, ℕ, ◌<◌, ◌≤◌, ◌||◌, ◌++◌, nat_lt, Bool, true, false, List, [], ◌∷◌, length, Option, Some, None, cond}
 use Rattle.std.specs.List.{slice_set}
 use Rattle.std.specs.Option.{unwrap_or, is_some}
 use Rattle.std.specs.Int.NonZero.{non_zero_u64_get}
@@ -50,6 +50,10 @@ pub record PreparesPiece {H : Type 0} (old : List (Option (Slot H))) (r : Reques
 -- no shared block has a place
 abbrev pub NoneServes : {H : Type 0} → List (Option (Slot H)) → Request → Type 0
 NoneServes slots r = (i : ℕ) → CannotServe r (slot_at slots i)
+
+-- no shared block in a slot from `first` on has a place
+abbrev pub NoneServesFrom : {H : Type 0} → List (Option (Slot H)) → Request → (first : ℕ) → Type 0
+NoneServesFrom slots r first = (i : ℕ) → first ≤ i → CannotServe r (slot_at slots i)
 
 abbrev pub fresh_block : (is_dedicated : Bool) → (size granularity : ℕ) → Block
 fresh_block true size granularity = dedicated (empty_dedicated size)

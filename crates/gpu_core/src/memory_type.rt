@@ -1,6 +1,6 @@
 //! The blocks of one memory type, with no device at hand.
 
-ghost use Rattle.std.specs.Prelude.{◌≡◌, ◌≢◌, ◌+◌, ◌^◌, ◌<◌, ◌≤◌, ◌↔◌, [], length, Some, None, IfOk, IfErr, OnOk, OnErr, IsTrue};
+ghost use Rattle.std.specs.Prelude.{◌≡◌, ◌≢◌, ◌+◌, ◌^◌, ◌<◌, ◌≤◌, ◌↔◌, [], length, Some, None, IfOk, IfErr, OnOk, OnErr, IfSome, IsNone, IsTrue};
 ghost use Rattle.std.specs.Int.{is_power_of_two};
 ghost use Rattle.gpu_values.specs.declared.error.AllocationError.TheVariants.{HostOutOfMemory};
 ghost use Rattle.gpu_values.specs.Refusal.{refusal_of};
@@ -73,7 +73,8 @@ impl<H: Copy + Eq> Model for MemoryType<H> {
 
 impl<H: Copy + Eq> MemoryType<H> {
     ghost use Rattle.gpu_core.specs.TypeState.{slot_at, capacity_of, shared_count, block_number, fits_budget, KeepsOneEmptyAtMost};
-    ghost use Rattle.gpu_core.specs.TypeTake.{Installs};
+    ghost use Rattle.gpu_core.specs.Moves.{ProposesMove, NoneAhead};
+    ghost use Rattle.gpu_core.specs.TypeTake.{asked, Installs};
     ghost use Rattle.gpu_core.specs.Slots.{AreSound};
     ghost use Rattle.gpu_core.specs.TypePrepare.{IsPrepared, CanInstall};
     ghost use Rattle.gpu_core.specs.TypeRelease.{has_others, IsLive, IsFreeRefusal, IsNameRefusal, ReleasesPiece, RenamesPiece};
@@ -176,6 +177,34 @@ impl<H: Copy + Eq> MemoryType<H> {
             size: room.size,
             handle,
         }
+    }
+
+    /// A second place for a piece, for the same request, in a block of a higher slot: the place that the request would have as
+    /// a new piece, if it lies there. `None` where no block ahead has one. No block is needed or freed for it. The only
+    /// refusal is `HostOutOfMemory`; where there is no place, nothing changes.
+    pub fn propose_move(&mut self, piece: &Piece<H>, request: &Request) -> Result<Option<Piece<H>>>
+        requires sized { 0 < request.now.size }
+        requires aligned { IsTrue (is_power_of_two request.now.alignment) }
+        requires piece { request.now.kind ≢ AllocationType.Free }
+        ensures proposed { IfOk result (λ o. IfSome o
+            (λ to. ProposesMove self.old.slots (asked request.now) piece.now to self.new.slots)) }
+        ensures none { IfOk result (λ o. IsNone o
+            → NoneAhead self.old.slots (asked request.now) piece.now.slot
+            × (self.new.slots ≡ self.old.slots)) }
+        ensures cause { IfErr result (λ e. e ≡ HostOutOfMemory) }
+        ensures refused { OnErr result (self.new.slots ≡ self.old.slots) }
+        ensures kind { (self.new.is_host ≡ self.old.is_host)
+            × (self.new.granularity ≡ self.old.granularity) }
+        ensures budget { self.new.budget ≡ self.old.budget }
+        ensures capacity { capacity_of self.new.slots ≡ capacity_of self.old.slots }
+        ensures sound { AreSound self.new.granularity self.new.slots }
+        ensures empty { KeepsOneEmptyAtMost self.new.slots }
+    {
+        if piece.slot >= self.slots.len() {
+            return Ok(None);
+        }
+        self.slots
+            .allocate_from(request, self.granularity, piece.slot + 1)
     }
 
     /// Frees a piece, and names the block that went with it, if one did: a dedicated block goes, and so does an

@@ -1,6 +1,6 @@
 //! The memory types of one allocator: one of them prepares a request, takes a new block in, or gives a piece back.
 
-ghost use Rattle.std.specs.Prelude.{◌≡◌, ◌≢◌, ℕ, ◌+◌, ◌^◌, ◌<◌, ◌≤◌, ◌↔◌, [], All, length, Some, None, IfOk, IfErr, IsOk, IsErr, OnOk, OnErr, IsTrue, map, string_bytes, codes};
+ghost use Rattle.std.specs.Prelude.{◌≡◌, ◌≢◌, ℕ, ◌+◌, ◌^◌, ◌<◌, ◌≤◌, ◌↔◌, [], All, length, Some, None, IfOk, IfErr, IsOk, IsErr, OnOk, OnErr, IfSome, IsNone, IsTrue, map, string_bytes, codes};
 ghost use Rattle.std.specs.Int.{is_power_of_two};
 ghost use Rattle.std.specs.List.{slice_set, slice_get};
 ghost use Rattle.std.specs.Option.{option_map};
@@ -95,6 +95,8 @@ fn missing_type() -> AllocationError
 
 impl<H: Copy + Eq> MemoryTypes<H> {
     ghost use Rattle.gpu_core.specs.TypePrepare.{CanInstall};
+    ghost use Rattle.gpu_core.specs.TypeTake.{asked};
+    ghost use Rattle.gpu_core.specs.Moves.{ProposesMoveAt, NoneAhead};
     ghost use Rattle.gpu_core.specs.TypeState.{slot_at, block_number};
     ghost use Rattle.gpu_core.specs.Slots.{AreSound};
     ghost use Rattle.gpu_block_pieces.specs.Leak.{leak_text};
@@ -215,6 +217,32 @@ impl<H: Copy + Eq> MemoryTypes<H> {
         ensures kept { MemoryTypesInvariant self.new }
     {
         self.types[index].install(need, handle)
+    }
+
+    /// A second place for a piece of the memory type at `index`, which is there, as `MemoryType::propose_move` has it.
+    pub fn propose_move(
+        &mut self,
+        index: usize,
+        piece: &Piece<H>,
+        request: &Request,
+    ) -> Result<Option<Piece<H>>>
+        requires there { index < length self.old }
+        requires sized { 0 < request.now.size }
+        requires aligned { IsTrue (is_power_of_two request.now.alignment) }
+        requires piece { request.now.kind ≢ AllocationType.Free }
+        ensures proposed { IfOk result (λ o. IfSome o (λ to. ProposesMoveAt index (slots_of self.old)
+            (asked request.now) piece.now to (slots_of self.new))) }
+        ensures none { IfOk result (λ o. IsNone o
+            → NoneAhead (slots_at (slots_of self.old) index) (asked request.now) piece.now.slot
+            × (slots_of self.new ≡ slots_of self.old)) }
+        ensures cause { IfErr result (λ e. e ≡ HostOutOfMemory) }
+        ensures refused { OnErr result (slots_of self.new ≡ slots_of self.old) }
+        ensures others { (t : ℕ) → t ≢ index → type_of self.new t ≡ type_of self.old t }
+        ensures kinds { kinds self.new ≡ kinds self.old }
+        ensures budgets { budgets self.new ≡ budgets self.old }
+        ensures kept { MemoryTypesInvariant self.new }
+    {
+        self.types[index].propose_move(piece, request)
     }
 
     /// Frees a piece of the memory type at `index`, and names the block that went with it, if one did. It takes no

@@ -1,6 +1,6 @@
 //! The slots of a memory type.
 
-ghost use Rattle.std.specs.Prelude.{◌≡◌, ◌≢◌, ℕ, ◌+◌, ◌^◌, ◌<◌, ◌||◌, nat_lt, [], length, vec_capacity, if◌then◌else◌, Some, None, IfOk, IfErr, OnOk, OnErr, IfSome, IsNone, IsTrue};
+ghost use Rattle.std.specs.Prelude.{◌≡◌, ◌≢◌, ℕ, ◌+◌, ◌^◌, ◌<◌, ◌≤◌, ◌||◌, nat_lt, [], length, vec_capacity, if◌then◌else◌, Some, None, IfOk, IfErr, OnOk, OnErr, IfSome, IsNone, IsTrue};
 ghost use Rattle.std.specs.Int.{is_power_of_two};
 ghost use Rattle.std.specs.List.{position};
 ghost use Rattle.std.specs.Option.{is_none, is_some};
@@ -8,7 +8,7 @@ ghost use Rattle.gpu_values.specs.declared.error.AllocationError.TheVariants.{Ho
 ghost use Rattle.gpu_values.specs.Refusal.{refusal_of};
 ghost use Rattle.gpu_core.specs.TypeState.{slot_at, capacity_of, shared_count, lowest_empty, highest_empty};
 ghost use Rattle.gpu_core.specs.TypeRelease.{IsLive, IsFreeRefusal, IsNameRefusal, ReleasesPiece, RenamesPiece};
-ghost use Rattle.gpu_core.specs.TypeTake.{asked, PreparesPiece, NoneServes, new_slot, with_block};
+ghost use Rattle.gpu_core.specs.TypeTake.{asked, PreparesPiece, NoneServes, NoneServesFrom, new_slot, with_block};
 ghost use Rattle.gpu_core.specs.Slots.{slot_of, slots_of, AreSound, AreBounded, OthersAreBounded, IsEmptyAt, released_handle, released_size, released_shared};
 
 use crate::longest::Longest;
@@ -83,6 +83,31 @@ impl<H: Copy + Eq> Slots<H> {
         ensures room { self.new.room ≡ self.old.room }
         ensures kept { AreSound granularity self.new.slots }
     {
+        self.allocate_from(request, granularity, 0)
+    }
+
+    /// The same of the slots from `first` on alone.
+    pub fn allocate_from(
+        &mut self,
+        request: &Request,
+        granularity: u64,
+        first: usize,
+    ) -> Result<Option<Piece<H>>>
+        requires sized { 0 < request.now.size }
+        requires aligned { IsTrue (is_power_of_two request.now.alignment) }
+        requires piece { request.now.kind ≢ AllocationType.Free }
+        requires sound { AreSound granularity self.old.slots }
+        ensures took { IfOk result (λ o. IfSome o
+            (λ p. PreparesPiece self.old.slots (asked request.now) p self.new.slots
+            × (first ≤ p.slot))) }
+        ensures none { IfOk result (λ o. IsNone o
+            → NoneServesFrom self.old.slots (asked request.now) first
+            × (self.new.slots ≡ self.old.slots)) }
+        ensures cause { IfErr result (λ e. e ≡ HostOutOfMemory) }
+        ensures refused { OnErr result (self.new.slots ≡ self.old.slots) }
+        ensures room { self.new.room ≡ self.old.room }
+        ensures kept { AreSound granularity self.new.slots }
+    {
         let Request {
             size,
             alignment,
@@ -91,7 +116,7 @@ impl<H: Copy + Eq> Slots<H> {
             ..
         } = *request;
         let mut below = self.longest.pass_over(self.blocks.len(), size);
-        while below > 0 {
+        while below > first {
             below -= 1;
             if let Some(LiveBlock { handle, sub }) = &mut self.blocks[below] {
                 if let SubAllocator::FreeList(list) = sub {

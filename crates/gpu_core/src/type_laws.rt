@@ -1,12 +1,15 @@
 //! Laws of memory types, each the contract of a function that does nothing.
 
-ghost use Rattle.std.specs.Prelude.{◌≡◌, ◌≢◌, ℕ, ◌<◌, ◌≤◌, Bool, List, [], Option, IsTrue, true, false};
-ghost use Rattle.gpu_block_pieces.specs.FreeList.{fresh_free_list};
+ghost use Rattle.std.specs.Prelude.{◌≡◌, ◌≢◌, ℕ, ◌+◌, ◌-◌, ◌^◌, ◌<◌, ◌≤◌, Bool, List, [], Option, Some, IsTrue, true, false};
+ghost use Rattle.std.specs.Int.{IsPowerOfTwo};
+ghost use Rattle.gpu_block_pieces.specs.FreeList.{FreeList, IsGap, fresh_free_list};
+ghost use Rattle.gpu_block_pieces.specs.Laws.{IsLongEnough};
 ghost use Rattle.gpu_block_pieces.specs.Request.{Request};
 ghost use Rattle.gpu_block_pieces.specs.Place.{IsBestFit, HasNoPlace};
-ghost use Rattle.gpu_block.specs.Block.{Block, extents_of, is_shared, TakesIn, ReleasesIn, IsSoundBlock};
+ghost use Rattle.gpu_block.specs.Block.{Block, free_list, extents_of, is_shared, TakesIn, ReleasesIn, IsSoundBlock};
 ghost use Rattle.gpu_core.specs.TypeTake.{fresh_block, has_dedicated_block, PreparesPiece, Pending, NeedsBlock, Installs};
-ghost use Rattle.gpu_core.specs.TypeState.{IsOneGap, Slot, TypeState};
+ghost use Rattle.gpu_core.specs.TypeState.{IsOneGap, Slot, TypeState, slot_at};
+ghost use Rattle.gpu_core.specs.Moves.{ProposesMove, NoneAhead, slots_above, moves_left};
 ghost use Rattle.gpu_core.specs.TypeRelease.{IsFreeRefusal, IsNameRefusal, ReleasesPiece, RenamesPiece};
 ghost use Rattle.gpu_values.specs.Refusal.{Refusal, host_out_of_memory};
 ghost use Rattle.gpu_core.specs.Slots.{AreSound, SlotIsSound};
@@ -70,4 +73,39 @@ pub fn one_piece_released<H: Copy + Eq>()
     ensures renames { (old : List (Option (Slot H))) (p : Piece H) (name : List ℕ)
         (new next : List (Option (Slot H))) → RenamesPiece old p name new
         → RenamesPiece old p name next → new ≡ next }
+{}
+
+// ---- moves
+
+/// Moves end: a second place adds the slots above it to the moves that are left, a place that is freed takes those above it
+/// away, and the second place lies above the first.
+pub fn moves_end<H: Copy + Eq>()
+    ensures proposed { (old new : List (Option (Slot H))) (r : Request) (from to : Piece H)
+        → ProposesMove old r from to new
+        → moves_left new ≡ moves_left old + slots_above old to.slot }
+    ensures freed { (several : Bool) (old new : List (Option (Slot H))) (p : Piece H)
+        (went : Option H) → ReleasesPiece (IsTrue several) old p went new
+        → moves_left new + slots_above old p.slot ≤ moves_left old }
+    ensures fewer { (several : Bool) (old mid new : List (Option (Slot H))) (r : Request)
+        (from to : Piece H) (went : Option H) → ProposesMove old r from to mid
+        → ReleasesPiece (IsTrue several) mid from went new → moves_left new < moves_left old }
+{}
+
+/// A proposal has one outcome, and excludes that no block ahead has a place.
+pub fn one_move_proposed<H: Copy + Eq>()
+    ensures once { (g : ℕ) (old new next : List (Option (Slot H))) (r : Request)
+        (from to other : Piece H) → AreSound g old → ProposesMove old r from to new
+        → ProposesMove old r from other next → (to ≡ other) × (new ≡ next) }
+    ensures or_none { (old new : List (Option (Slot H))) (r : Request) (from to : Piece H)
+        → ProposesMove old r from to new → NoneAhead old r from.slot → ⊥ }
+{}
+
+/// A piece that has no second place stays for lack of gaps: no gap of a block ahead is as long as the piece with what its
+/// alignment and its pages may cost, or that block's chunk ids are used up.
+pub fn piece_stays_for_lack_of_gaps<H: Copy + Eq>()
+    ensures { (g : ℕ) (slots : List (Option (Slot H))) (r : Request) (slot i : ℕ) (s : Slot H)
+        (b : FreeList) (start end : ℕ) → AreSound g slots → IsPowerOfTwo g
+        → IsPowerOfTwo r.alignment → 0 < r.size → NoneAhead slots r slot → slot < i
+        → slot_at slots i ≡ Some s → s.block ≡ free_list b → IsGap b start end
+        → IsLongEnough b r start end → b.counter ≡ 2 ^ 64 - 1 }
 {}

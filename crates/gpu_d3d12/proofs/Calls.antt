@@ -1,13 +1,14 @@
 -- What the calls of an allocator return and leave are steps of the model.
 use Rattle.std.specs.Prelude.{string_bytes, Vec, String}
 use Rattle.std.specs.Global.{Global}
-use Rattle.std.proofs.Common.{◌≡◌, refl, ap, subst, ℕ, true, false, Bool, List, map, Option, Some, None, Ok, Err, Result, IfOk, IfErr}
+use Rattle.std.proofs.Common.{◌≡◌, refl, sym, ap, subst, ℕ, true, false, Bool, List, map, Option, Some, None, Ok, Err, Result, IfOk, IfErr}
 use Rattle.gpu_values.specs.Refusal.{Refusal, refusal_of, refusal_in, invalid_allocation_create_desc}
 use Rattle.gpu_values.specs.Report.{report_of}
 use Rattle.gpu_values.specs.declared.error.AllocationError.{AllocationError}
 use Rattle.gpu_values.specs.declared.error.AllocationError.TheVariants.{HostOutOfMemory}
 use Rattle.gpu_values.specs.declared.report.AllocatorReport.{AllocatorReport}
 use Rattle.gpu_block_pieces.specs.Leak.{leak_text}
+use Rattle.gpu_block_pieces.specs.Request.{Request}
 use Rattle.gpu_core.specs.declared.piece.Piece.{Piece}
 use Rattle.gpu_device.specs.declared.d3d12.device.D3D12Device.{Ghosts}
 use Rattle.gpu_device.specs.declared.d3d12.types.ID3D12Heap.{ID3D12Heap}
@@ -29,16 +30,18 @@ use Rattle.gpu_d3d12.specs.Allocate as allocations
 use Rattle.gpu_d3d12.specs.Allocate.{is_valid, request_in}
 use Rattle.gpu_d3d12.specs.Blocks.{is_same_heap}
 use Rattle.gpu_d3d12.specs.Committed.{statistics_at}
+use Rattle.gpu_d3d12.specs.Describe.{request_of}
 use Rattle.gpu_d3d12.specs.Free.{freed_of, Frees}
-use Rattle.gpu_pool.specs.Allocation.{piece_of, Returns, RenamesNamed}
+use Rattle.gpu_pool.specs.Allocation.{piece_of, Returns, ReturnsPlace, ProposesNamed, RenamesNamed}
 use Rattle.gpu_d3d12.specs.Live.{Allocation}
 use Rattle.gpu_d3d12.specs.Reply.{Reply, error}
 use Rattle.gpu_d3d12.specs.Reply as module_replies
 use Rattle.gpu_d3d12.specs.Source.{AsksBlock, GivesHeapBack, MakesResource, ReleasesResource}
 use Rattle.gpu_d3d12.specs.State as states
 use Rattle.gpu_d3d12.specs.State.{State, Basis, Contents, seen_of, over, pool_of, source_basis, basis_of, model_of}
-use Rattle.gpu_d3d12.specs.Step.{Call, Free, Rename, Capacity, Report, Leaks, Statistics, SetBudget, Budget, nothing_met, allocated_reply, AllocatesBy, SeesQuestion, SeesHeapFreed, Step, IsStep}
-use Rattle.gpu_d3d12.specs.Step.{Replies, IsAllocateStep, freed_as, reply_of_done, reply_of_report, leaked_as}
+use Rattle.gpu_d3d12.specs.Step.{Call, Free, Rename, ProposeMove, Capacity, Report, Leaks, Statistics, SetBudget, Budget, nothing_met, allocated_reply, AllocatesBy, ProposesBy, is_again, SeesQuestion, SeesHeapFreed, SeesMade, SeesReleased, Step, IsStep}
+use Rattle.gpu_d3d12.specs.Step.{Replies, IsAllocateStep, RepliesPlace, IsMoveStep, freed_as, reply_of_done, reply_of_report, leaked_as}
+use Rattle.gpu_pool.proofs.Moving.{proposes_over}
 use Rattle.gpu_d3d12.proofs.Staying.{stays_same, same_version, frees_stays, allocates_keeps}
 use Rattle.gpu_d3d12.proofs.Steps.{frees_seen, allocates_seen}
 
@@ -175,6 +178,62 @@ module _ {D : Type 0} (g : Ghosts D) where
         ),
         committed,
       ) source
+
+  -- ---- a second place
+
+  abbrev IsMove : Basis → Allocation → AllocationCreateDesc → (again : Bool) → environments.Environment ID3D12Heap → replies.Reply ID3D12Heap → (old new : State D) → Type 0
+  IsMove basis a d again met reply old new =
+      ProposesBy (SeesQuestion basis.tier) SeesHeapFreed SeesMade SeesReleased basis a d again met reply (pools.over (seen_of g) (pool_of old)) (pools.over (seen_of g) (pool_of new))
+
+  placed_replies : (t : ℕ) (d : AllocationCreateDesc) (result : Result (Option Allocation) AllocationError) (answer : Result (Option (Piece ID3D12Heap)) Refusal) → ReturnsPlace t d.name.now result answer
+      → RepliesPlace d result (replies.proposed_as t answer)
+  placed_replies t d (Ok (Some a)) (Ok (Some p)) h = h
+  placed_replies t d (Ok (Some a)) (Ok None) h = absurd h
+  placed_replies t d (Ok (Some a)) (Err r) h = absurd h
+  placed_replies t d (Ok None) (Ok (Some p)) h = absurd h
+  placed_replies t d (Ok None) (Ok None) h = tt
+  placed_replies t d (Ok None) (Err r) h = absurd h
+  placed_replies t d (Err e) (Ok o) h = absurd h
+  placed_replies t d (Err e) (Err r) h = h
+
+  pub move_step : (a : Allocation) (d : AllocationCreateDesc) (r : Request) → r ≡ request_of d → (old new : State D) (result : Result (Option Allocation) AllocationError) → is_again a d ≡ true
+      → ProposesNamed is_same_heap a r (pool_of old) result (pool_of new) → (pool_of new).source ≡ (pool_of old).source → new.committed ≡ old.committed → IsMoveStep g a d result old new
+  move_step a d r asks old new result again named source committed =
+      let t = a.memory_type_index in
+      let basis = basis_of g old in
+      let k = subst (λ (q : Request). ProposesNamed is_same_heap a q (pool_of old) result (pool_of new)) asks named in
+      let met = k.proposes.0 in
+      let reply : replies.Reply ID3D12Heap = replies.proposed_as t k.answer in
+      let here : IsMove basis a d true met reply old new =
+      (k.answer, refl, proposes_over (seen_of g) is_same_heap t (piece_of a) (request_of d) (pool_of old) met k.answer (pool_of new) k.proposes.1) in
+      record {
+        reply = reply;
+        step = still (ProposeMove a d) (module_replies.Pool reply) old new met (
+          refl,
+          reply,
+          refl,
+          subst (λ v. IsMove basis a d v met reply old new) (sym again) here,
+          committed,
+        ) source;
+        replies = placed_replies t d result k.answer k.returns;
+      }
+
+  -- what isn't the request again is refused
+  pub refuse_step : (a : Allocation) (d : AllocationCreateDesc) (s : State D) (e : AllocationError) → refusal_of e ≡ invalid_allocation_create_desc → is_again a d ≡ false → IsMoveStep g a d (Err e) s s
+  refuse_step a d s e is other =
+      let reply : replies.Reply ID3D12Heap = replies.Error invalid_allocation_create_desc in
+      let basis = basis_of g s in
+      record {
+        reply = reply;
+        step = still (ProposeMove a d) (module_replies.Pool reply) s s NothingMet (
+          refl,
+          reply,
+          refl,
+          subst (λ v. IsMove basis a d v NothingMet reply s s) (sym other) (refl, refl, refl),
+          refl,
+        ) refl;
+        replies = is;
+      }
 
   -- ---- budgets
 

@@ -42,6 +42,7 @@ use Rattle.gpu_pool.specs.Step.{AskDecides, GiveBackDecides}
 use Rattle.gpu_pool.proofs.OneStep as pool
 use Rattle.gpu_d3d12.specs.Allocate.{is_valid, request_in}
 use Rattle.gpu_d3d12.specs.Blocks.{Slots, is_same_heap}
+use Rattle.gpu_d3d12.specs.Describe.{request_of}
 use Rattle.gpu_d3d12.specs.Source.{heap_result}
 use Rattle.gpu_d3d12.specs.Committed.{Commits, CommitsBy, IsAfterResource, fits, records_at, number_or_refusal}
 use Rattle.gpu_pool.specs.Allocation.{piece_of}
@@ -49,8 +50,8 @@ use Rattle.gpu_d3d12.specs.Live.{Allocation}
 use Rattle.gpu_d3d12.specs.Reply.{Reply, Pool, made_reply}
 use Rattle.gpu_d3d12.specs.Resource.{piece_desc, record_of}
 use Rattle.gpu_d3d12.specs.State.{Basis, Seen, Model}
-use Rattle.gpu_d3d12.specs.Step.{Call, Allocate, Free, Rename, Capacity, Report, Leaks, CreateResource, FreeResource, Statistics, SetBudget, Budget, Environment, host_met, info_of, size_made, allocated_reply}
-use Rattle.gpu_d3d12.specs.Step.{SeesQuestion, SeesHeapFreed, SeesMade, SeesReleased, AllocatesBy, Commit, EndsBy, PlacesThen, Place, MakesBy, CreatesBy, FreesPlaced, FreesCommitted, FreesResource, OfPool, IsPoolCall, Step}
+use Rattle.gpu_d3d12.specs.Step.{Call, Allocate, Free, Rename, ProposeMove, Capacity, Report, Leaks, CreateResource, FreeResource, Statistics, SetBudget, Budget, Environment, host_met, info_of, size_made, allocated_reply}
+use Rattle.gpu_d3d12.specs.Step.{SeesQuestion, SeesHeapFreed, SeesMade, SeesReleased, AllocatesBy, Commit, EndsBy, PlacesThen, Place, MakesBy, CreatesBy, FreesPlaced, FreesCommitted, FreesResource, OfPool, IsPoolCall, ProposesBy, is_again, Step}
 use Rattle.gpu_d3d12.specs.declared.committed_record.CommittedRecord.{CommittedRecord}
 use Rattle.gpu_d3d12.specs.declared.resource.Resource.{Resource}
 
@@ -143,6 +144,14 @@ module _ (basis : Basis) where
       let types : a.0 ≡ b.0 = one_first d.location d.resource_category (memory_kinds basis.tier) a.0 b.0 a.1 b.1 in
       let other = subst (λ t. IsCall (calls.Allocate (request_in t d)) met y old next) (sym types) b.2 in
       call_once (calls.Allocate (request_in a.0 d)) met x y old new next sound a.2 other
+
+  abbrev Proposes : Allocation → AllocationCreateDesc → Bool → environments.Environment ID3D12Heap → replies.Reply ID3D12Heap → (old new : Pools) → Type 0
+  Proposes w d again met reply old new = ProposesBy (SeesQuestion basis.tier) SeesHeapFreed SeesMade SeesReleased basis w d again met reply old new
+
+  propose_once : (w : Allocation) (d : AllocationCreateDesc) (again : Bool) (met : environments.Environment ID3D12Heap) (x y : replies.Reply ID3D12Heap) (old new next : Pools) → Sound old
+      → Proposes w d again met x old new → Proposes w d again met y old next → (x ≡ y) × (new ≡ next)
+  propose_once w d false met x y old new next sound a b = (a.1 ∙ sym b.1, a.2 ∙ sym b.2)
+  propose_once w d true met x y old new next sound a b = call_once (calls.ProposeMove w.memory_type_index (piece_of w) (request_of d)) met x y old new next sound a b
 
   frees_once : (t : ℕ) (p : Piece ID3D12Heap) (old : Pools) → Sound old → (x y : Result (Unit {0}) Refusal) (new next : Pools) → Frees SeesHeapFreed is_same_heap t p old x new
       → Frees SeesHeapFreed is_same_heap t p old y next → (x ≡ y) × (new ≡ next)
@@ -328,6 +337,8 @@ module _ (basis : Basis) where
       of_pool_once (Allocates d (is_valid d)) met x y old new next (λ r s p q. allocate_once d (is_valid d) met.pool r s old.pool new.pool next.pool sound p q) a b
   once (Free w) met x y old new next sound a b = called_once (calls.Free w.memory_type_index (piece_of w)) met x y old new next sound a b
   once (Rename w name) met x y old new next sound a b = called_once (calls.Rename w.memory_type_index (piece_of w) name) met x y old new next sound a b
+  once (ProposeMove w d) met x y old new next sound a b =
+      of_pool_once (Proposes w d (is_again w d)) met x y old new next (λ r s p q. propose_once w d (is_again w d) met.pool r s old.pool new.pool next.pool sound p q) a b
   once Capacity met x y old new next sound a b = called_once calls.Capacity met x y old new next sound a b
   once Report met x y old new next sound a b = called_once calls.Report met x y old new next sound a b
   once Leaks met x y old new next sound a b = called_once calls.LeakTexts met x y old new next sound a b

@@ -24,13 +24,14 @@ use Rattle.gpu_pool.proofs.WithoutBudgets as plain
 use Rattle.gpu_d3d12.specs.Allocate.{is_valid, request_in}
 use Rattle.gpu_d3d12.specs.Blocks.{is_same_heap}
 use Rattle.gpu_d3d12.specs.Committed.{number_or_refusal}
+use Rattle.gpu_d3d12.specs.Describe.{request_of}
 use Rattle.gpu_pool.specs.Allocation.{piece_of}
 use Rattle.gpu_d3d12.specs.Live.{Allocation}
 use Rattle.gpu_d3d12.specs.Reply.{Reply}
 use Rattle.gpu_d3d12.specs.Resource.{piece_desc, record_of}
 use Rattle.gpu_d3d12.specs.State.{Basis, Seen, Model, without_budgets}
-use Rattle.gpu_d3d12.specs.Step.{Call, Allocate, Free, Rename, Capacity, Report, Leaks, CreateResource, FreeResource, Statistics, SetBudget, Budget, Environment, info_of, allocated_reply, MakesWithoutBudget, MeetsNoBudget}
-use Rattle.gpu_d3d12.specs.Step.{SeesQuestion, SeesHeapFreed, SeesMade, SeesReleased, AllocatesBy, Commit, EndsBy, PlacesThen, Place, MakesBy, CreatesBy, FreesPlaced, FreesCommitted, FreesResource, OfPool, IsPoolCall, Step}
+use Rattle.gpu_d3d12.specs.Step.{Call, Allocate, Free, Rename, ProposeMove, Capacity, Report, Leaks, CreateResource, FreeResource, Statistics, SetBudget, Budget, Environment, info_of, allocated_reply, MakesWithoutBudget, MeetsNoBudget}
+use Rattle.gpu_d3d12.specs.Step.{SeesQuestion, SeesHeapFreed, SeesMade, SeesReleased, AllocatesBy, Commit, EndsBy, PlacesThen, Place, MakesBy, CreatesBy, FreesPlaced, FreesCommitted, FreesResource, OfPool, IsPoolCall, ProposesBy, is_again, Step}
 use Rattle.gpu_d3d12.specs.declared.committed_record.CommittedRecord.{CommittedRecord}
 use Rattle.gpu_d3d12.specs.declared.resource.Resource.{Resource}
 
@@ -56,6 +57,12 @@ module _ (basis : Basis) where
       → AllocatesBy (SeesQuestion basis.tier) SeesHeapFreed SeesMade SeesReleased basis d valid met x (free_of old) (free_of new)
   allocate_plain d false met x old new none a = (a.0, a.1, ap free_of a.2)
   allocate_plain d true met x old new none a = (a.0, a.1, call_plain (calls.Allocate (request_in a.0 d)) met x old new (none a.0 a.1) a.2)
+
+  propose_plain : (w : Allocation) (d : AllocationCreateDesc) (again : Bool) (met : environments.Environment ID3D12Heap) (x : replies.Reply ID3D12Heap) (old new : Pools)
+      → ProposesBy (SeesQuestion basis.tier) SeesHeapFreed SeesMade SeesReleased basis w d again met x old new
+      → ProposesBy (SeesQuestion basis.tier) SeesHeapFreed SeesMade SeesReleased basis w d again met x (free_of old) (free_of new)
+  propose_plain w d false met x old new a = (a.0, a.1, ap free_of a.2)
+  propose_plain w d true met x old new a = call_plain (calls.ProposeMove w.memory_type_index (piece_of w) (request_of d)) met x old new tt a
 
   frees_plain : (t : ℕ) (p : Piece ID3D12Heap) (old : Pools) (answer : Result (Unit {0}) Refusal) (new : Pools) → Frees SeesHeapFreed is_same_heap t p old answer new
       → Frees SeesHeapFreed is_same_heap t p (free_of old) answer (free_of new)
@@ -156,6 +163,7 @@ step_plain basis (FreeResource r) met x old new none a = (a.0, a.1, a.2, back_pl
 step_plain basis (Statistics t) met x old new none a = (a.0, a.1, ap without_budgets a.2)
 step_plain basis (Free w) met x old new none a = called_plain basis (calls.Free w.memory_type_index (piece_of w)) met x old new tt a
 step_plain basis (Rename w name) met x old new none a = called_plain basis (calls.Rename w.memory_type_index (piece_of w) name) met x old new tt a
+step_plain basis (ProposeMove w d) met x old new none a = (a.0, a.1, a.2, propose_plain basis w d (is_again w d) met.pool a.1 old.pool new.pool a.3, a.4)
 step_plain basis Capacity met x old new none a = called_plain basis calls.Capacity met x old new tt a
 step_plain basis Report met x old new none a = called_plain basis calls.Report met x old new tt a
 step_plain basis Leaks met x old new none a = called_plain basis calls.LeakTexts met x old new tt a

@@ -1,5 +1,5 @@
 -- An allocator as a model: what each call returns and leaves of its contents, by what it met with.
-use Rattle.std.specs.Prelude.{◌≡◌, ℕ, Vec, String, Bool, true, false, List, [], ◌∷◌, map, string_bytes, Option, Some, None, Result, Ok, Err}
+use Rattle.std.specs.Prelude.{◌≡◌, ℕ, ◌==◌, ◌&&◌, Vec, String, Bool, true, false, List, [], ◌∷◌, map, string_bytes, Option, Some, None, Result, Ok, Err}
 use Rattle.std.specs.Global.{Global}
 use Rattle.std.specs.List.{slice_set}
 use Rattle.gpu_values.specs.Refusal.{Refusal, refusal_of, invalid_allocation_create_desc}
@@ -22,6 +22,7 @@ use Rattle.gpu_device.specs.declared.d3d12.types.ResourceAllocationInfo.{Resourc
 use Rattle.gpu_device.specs.declared.d3d12.types.ResourceHeapTier.{ResourceHeapTier}
 use Rattle.gpu_core.specs.declared.piece.Piece.{Piece}
 use Rattle.gpu_core.specs.Budgets.{Budgets, budget_at}
+use Rattle.gpu_d3d12.specs.Describe.{request_of}
 use Rattle.gpu_d3d12.specs.DeviceVersion.{device_of, with_device}
 use Rattle.gpu_d3d12.specs.HeapAnswer.{HeapAnswer, told_answer}
 use Rattle.gpu_d3d12.specs.Heaps.{heap_desc}
@@ -62,6 +63,7 @@ pub data Call : Type 0 where
   Allocate : (d : AllocationCreateDesc) → Call
   Free : (a : Allocation) → Call
   Rename : (a : Allocation) (name : List ℕ) → Call
+  ProposeMove : (a : Allocation) (d : AllocationCreateDesc) → Call
   Capacity : Call
   Report : Call
   Leaks : Call
@@ -98,6 +100,10 @@ abbrev pub allocated_reply : Result (ℕ × Piece ID3D12Heap) Refusal → replie
 allocated_reply (Ok p) = replies.Allocated p.0 p.1
 allocated_reply (Err refusal) = replies.Error refusal
 
+-- the request again: valid, and of the allocation's size
+abbrev pub is_again : Allocation → AllocationCreateDesc → Bool
+is_again a d = is_valid d && (d.size == a.size)
+
 -- asks, gives_back, makes and releases are the source's: a question for a heap, a heap that goes back, a question for a resource, one that is released
 module _ {S : Type 0} (asks : S → ℕ → ℕ → Unit {0} → Result ID3D12Heap Refusal → S → Type 0) (gives_back : S → ID3D12Heap → S → Type 0)
     (makes : ResourceCreateDesc → S → CreateCall → ResourcePlace → Entry → ResourceAnswer → S → Type 0) (releases : S → ℕ → S → Type 0) (basis : Basis) where
@@ -112,6 +118,11 @@ module _ {S : Type 0} (asks : S → ℕ → ℕ → Unit {0} → Result ID3D12He
   AllocatesBy d false met reply old new = (met ≡ NothingMet) × (reply ≡ replies.Error invalid_allocation_create_desc) × (new ≡ old)
   AllocatesBy d true met reply old new =
       (t : ℕ) × IsFirstServing d.location d.resource_category (memory_kinds basis.tier) t × IsPoolCall (calls.Allocate (request_in t d)) met reply old new
+
+  -- a second place for the request again
+  abbrev pub ProposesBy : Allocation → AllocationCreateDesc → (again : Bool) → environments.Environment ID3D12Heap → replies.Reply ID3D12Heap → (old new : pools.State S ID3D12Heap) → Type 0
+  ProposesBy a d false met reply old new = (met ≡ NothingMet) × (reply ≡ replies.Error invalid_allocation_create_desc) × (new ≡ old)
+  ProposesBy a d true met reply old new = IsPoolCall (calls.ProposeMove a.memory_type_index (piece_of a) (request_of d)) met reply old new
 
   -- ---- a resource
 
@@ -196,6 +207,7 @@ module _ {S : Type 0} (asks : S → ℕ → ℕ → Unit {0} → Result ID3D12He
   StepOver (Allocate d) met reply old new = OfPool (AllocatesBy d (is_valid d)) met reply old new
   StepOver (Free a) met reply old new = OfPool (IsPoolCall (calls.Free a.memory_type_index (piece_of a))) met reply old new
   StepOver (Rename a name) met reply old new = OfPool (IsPoolCall (calls.Rename a.memory_type_index (piece_of a) name)) met reply old new
+  StepOver (ProposeMove a d) met reply old new = OfPool (ProposesBy a d (is_again a d)) met reply old new
   StepOver Capacity met reply old new = OfPool (IsPoolCall calls.Capacity) met reply old new
   StepOver Report met reply old new = OfPool (IsPoolCall calls.Report) met reply old new
   StepOver Leaks met reply old new = OfPool (IsPoolCall calls.LeakTexts) met reply old new
@@ -253,6 +265,19 @@ pub record IsAllocateStep {D : Type 0} (g : Ghosts D) (d : AllocationCreateDesc)
   pub reply : replies.Reply ID3D12Heap
   pub step : IsStep g (Allocate d) (Pool reply) old new
   pub replies : Replies d result reply
+
+-- the same of a second place's caller
+abbrev pub RepliesPlace : AllocationCreateDesc → Result (Option Allocation) AllocationError → replies.Reply ID3D12Heap → Type 0
+RepliesPlace d (Ok (Some a)) (replies.SecondPlace t (Some p)) = IsAllocated t d.name.now p a
+RepliesPlace d (Ok None) (replies.SecondPlace t None) = Unit {0}
+RepliesPlace d (Err e) (replies.Error r) = refusal_of e ≡ r
+RepliesPlace d _ _ = ⊥
+
+-- looking for a second place is a step of the model, and its caller gets what the model replies
+pub record IsMoveStep {D : Type 0} (g : Ghosts D) (a : Allocation) (d : AllocationCreateDesc) (result : Result (Option Allocation) AllocationError) (old new : State D) : Type 0 where
+  pub reply : replies.Reply ID3D12Heap
+  pub step : IsStep g (ProposeMove a d) (Pool reply) old new
+  pub replies : RepliesPlace d result reply
 
 -- the same of a resource's caller
 abbrev pub RepliesResource : ResourceCreateDesc → Result Resource AllocationError → Reply → Type 0

@@ -1,6 +1,6 @@
 //! The allocator: blocks of heaps by memory type, and the calls that share them out.
 
-ghost use Rattle.std.specs.Prelude.{◌≡◌, ◌↔◌, ◌%◌, [], All, None, Ok, IfOk, IfErr, IsTrue, length, ◌<◌};
+ghost use Rattle.std.specs.Prelude.{◌≡◌, ◌↔◌, ◌%◌, [], All, None, Ok, IfOk, IfErr, OnErr, IfSome, IsNone, IsTrue, length, ◌<◌};
 ghost use Rattle.std.specs.Option.{unwrap_or};
 ghost use Rattle.std.specs.FinMap.{get};
 ghost use Rattle.gpu_values.specs.Refusal.{refusal_of, host_out_of_memory};
@@ -20,12 +20,12 @@ ghost use Rattle.gpu_d3d12.specs.Blocks.{HoldsJustLiveBlocks, AsksNothing, relea
 ghost use Rattle.gpu_d3d12.specs.Committed.{statistics_at};
 ghost use Rattle.gpu_d3d12.specs.Free.{Frees};
 ghost use Rattle.gpu_d3d12.specs.Journal.{IsFirstAndOut, with_made, with_released};
-ghost use Rattle.gpu_pool.specs.Allocation.{AreDistinct, IsNewlyLive, RenamesNamed, StayLive};
+ghost use Rattle.gpu_pool.specs.Allocation.{AreDistinct, IsNewlyLive, IsSecondPlace, RenamesNamed, StayLive};
 ghost use Rattle.gpu_d3d12.specs.Live.{Allocation, IsLive};
 ghost use Rattle.gpu_d3d12.specs.Reply as module_replies;
 ghost use Rattle.gpu_d3d12.specs.Resource.{number_given, BeginsAligned, IsBeside, IsLivePlaced, IsNewIn, LiesInHeap};
 ghost use Rattle.gpu_d3d12.specs.State.{basis_of, beside_of, pool_of};
-ghost use Rattle.gpu_d3d12.specs.Step.{Free, Rename, Capacity, Report, Leaks, FreeResource, Statistics, SetBudget, Budget, info_of, IsStep, IsAllocateStep, IsCreateStep, freed_as, reply_of_done, reply_of_report, leaked_as};
+ghost use Rattle.gpu_d3d12.specs.Step.{Free, Rename, Capacity, Report, Leaks, FreeResource, Statistics, SetBudget, Budget, info_of, IsStep, IsAllocateStep, IsMoveStep, IsCreateStep, freed_as, reply_of_done, reply_of_report, leaked_as};
 ghost use Rattle.gpu_d3d12.specs.declared.resource.Resource.{Resource};
 
 use crate::allocate::allocate_piece;
@@ -36,7 +36,7 @@ use crate::source::D3D12Blocks;
 use crate::{
     Allocation, AllocationCreateDesc, AllocatorCreateDesc, CommittedAllocationStatistics,
     CommittedMemory, CommittedResources, ID3D12DeviceVersion, Resource, ResourceCreateDesc,
-    ResourceType, parts_of, question_for,
+    ResourceType, is_again, parts_of, question_for, request_of,
 };
 use gpu_core::MemoryTypes;
 use gpu_device::d3d12::{D3D12Device, ID3D12Heap};
@@ -226,6 +226,32 @@ impl<D: D3D12Device> Allocator<D> {
             Ok(()) => Ok(()),
             Err(error) => Err((error, allocation)),
         }
+    }
+
+    /// A second place for a live allocation, in a block that is there and in a higher slot, for the request that it was made for:
+    /// where a new allocation of it would lie now, if that is higher. `None` where it isn't live, or no such block has a place.
+    /// The device is asked for nothing. Both are live until one of them is freed: the first once what lies there is copied, or
+    /// the second, which gives the move up. Its location and category aren't looked at. `InvalidAllocationCreateDesc` where the
+    /// request isn't valid or of another size, else `HostOutOfMemory`; then nothing changes.
+    pub fn propose_move(
+        &mut self,
+        allocation: &Allocation,
+        desc: &AllocationCreateDesc,
+    ) -> Result<Option<Allocation>>
+        // what it is refused for, which place it finds or that there is none, and that nothing else changes
+        ensures step { IsMoveStep D.D3D12Device allocation.now desc.now result self.old self.new }
+        ensures gives { IfOk result (λ o. IfSome o (λ to. IsSecondPlace is_same_heap
+            desc.now.alignment self.old.slots allocation.now to self.new.slots)) }
+        ensures none { IfOk result (λ o. IsNone o → self.new ≡ self.old) }
+        ensures refused { OnErr result (self.new ≡ self.old) }
+        ensures others { self.new ≡ record self.old { slots = self.new.slots } }
+        ensures keeps { StayLive is_same_heap self.old.slots self.new.slots }
+    {
+        if !is_again(allocation, desc) {
+            return Err(AllocationError::InvalidAllocationCreateDesc);
+        }
+        self.pool
+            .propose_move_named(self.alloc, allocation, &request_of(desc))
     }
 
     /// Bounds the sum of the sizes of the blocks of a memory type, in bytes: a request that needs a new block beyond it is

@@ -4,8 +4,9 @@ ghost use Rattle.std.specs.Prelude.{◌≡◌, false};
 ghost use Rattle.gpu_core.specs.TypeTake.{asked};
 ghost use Rattle.gpu_d3d12.specs.Category.{category_of};
 ghost use Rattle.gpu_d3d12.specs.Describe.{request_of};
+ghost use Rattle.gpu_d3d12.specs.Step.{is_again};
 
-use crate::{ID3D12DeviceVersion, ResourceCategory};
+use crate::{Allocation, ID3D12DeviceVersion, ResourceCategory};
 use gpu_core::Request;
 use gpu_device::d3d12::{D3D12Device, ResourceDesc};
 use gpu_values::{AllocationSizes, AllocationType, AllocatorDebugSettings, MemoryLocation};
@@ -75,4 +76,11 @@ pub fn request_of<'a>(desc: &AllocationCreateDesc<'a>) -> Request<'a>
         dedicated: false,
         name: desc.name,
     }
+}
+
+/// Whether the description is an allocation's request again: valid, and of its size.
+pub fn is_again(allocation: &Allocation, desc: &AllocationCreateDesc) -> bool
+    ensures { result ≡ is_again allocation.now desc.now }
+{
+    desc.size != 0 && desc.alignment.is_power_of_two() && desc.size == allocation.size()
 }

@@ -27,6 +27,7 @@ pub use category::ResourceCategory;
 use committed::{CommittedMemory, CommittedResources};
 pub use committed_record::CommittedRecord;
 pub use committed_requests::{AwaitedResource, Committed, CommittedRequests};
+use describe::is_again;
 pub use describe::{AllocationCreateDesc, AllocatorCreateDesc, request_of};
 pub use device_version::ID3D12DeviceVersion;
 pub use heap::{heap_desc, heap_properties, refusal_of_answer};

@@ -1,6 +1,7 @@
 //! Worked rows of the DirectX 12 allocator.
 
 mod log_lines;
+mod moves;
 mod pieces;
 mod questions;
 mod refusals;

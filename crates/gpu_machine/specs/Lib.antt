@@ -3,11 +3,14 @@ pub mod VulkanState
 pub mod VulkanBegin
 pub mod VulkanCalls
 pub mod VulkanLive
+pub mod VulkanMove
 pub mod VulkanRun
 pub mod MetalState
 pub mod MetalBegin
 pub mod MetalCalls
 pub mod MetalLive
+pub mod MetalMove
 pub mod D3D12State
 pub mod D3D12Begin
 pub mod D3D12Live
+pub mod D3D12Move

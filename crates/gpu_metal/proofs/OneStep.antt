@@ -19,9 +19,11 @@ use Rattle.gpu_pool.proofs.WithoutBudgets as plain
 use Rattle.gpu_metal.specs.Allocate.{is_valid, request_in}
 use Rattle.gpu_metal.specs.Blocks.{Slots, is_same_heap}
 use Rattle.gpu_pool.specs.Allocation.{piece_of}
+use Rattle.gpu_metal.specs.Describe.{request_of}
+use Rattle.gpu_metal.specs.Live.{Allocation}
 use Rattle.gpu_metal.specs.Source.{heap_in}
 use Rattle.gpu_metal.specs.State.{Model}
-use Rattle.gpu_metal.specs.Step.{Call, Allocate, Free, Commit, SetBudget, Budget, Capacity, LiveHeaps, Report, with_question, SeesQuestion, SeesHeapFreed, PoolStep, AllocateStep, Step, MeetsNoBudget}
+use Rattle.gpu_metal.specs.Step.{Call, Allocate, Free, ProposeMove, Commit, SetBudget, Budget, Capacity, LiveHeaps, Report, with_question, SeesQuestion, SeesHeapFreed, PoolStep, AllocateStep, is_again, MoveStep, Step, MeetsNoBudget}
 
 question_decides : AskDecides SeesQuestion
 question_decides old a b t size extra answer x y =
@@ -59,10 +61,16 @@ allocate_once d true met x y old new next sound a b =
     let other = subst (λ t. PoolStep old (pools.Allocate (request_in t d)) met y next) (sym types) b.2 in
     pool_once (pools.Allocate (request_in a.0 d)) met x y old new next sound a.2 other
 
+move_once : (w : Allocation) (d : AllocationCreateDesc) (again : Bool) (met : Environment MTLHeap) (x y : Reply MTLHeap) (old new next : Model) → BlocksWellFormed 1 old.slots
+    → MoveStep w d again met x old new → MoveStep w d again met y old next → (x ≡ y) × (new ≡ next)
+move_once w d false met x y old new next sound a b = (a.1 ∙ sym b.1, a.2 ∙ sym b.2)
+move_once w d true met x y old new next sound a b = pool_once (pools.ProposeMove w.memory_type_index (piece_of w) (request_of d)) met x y old new next sound a b
+
 pub step_once : (call : Call) (met : Environment MTLHeap) (x y : Reply MTLHeap) (old new next : Model) → BlocksWellFormed 1 old.slots → Step call met x old new → Step call met y old next
     → (x ≡ y) × (new ≡ next)
 step_once (Allocate d) met x y old new next sound a b = allocate_once d (is_valid d) met x y old new next sound a b
 step_once (Free w) met x y old new next sound a b = pool_once (pools.Free w.memory_type_index (piece_of w)) met x y old new next sound a b
+step_once (ProposeMove w d) met x y old new next sound a b = move_once w d (is_again w d) met x y old new next sound a b
 step_once Commit met x y old new next sound a b = (a.1.0 ∙ sym b.1.0, a.1.1 ∙ sym b.1.1)
 step_once (SetBudget t budget) met x y old new next sound a b = pool_once (pools.SetBudget t budget) met x y old new next sound a b
 step_once (Budget t) met x y old new next sound a b = pool_once (pools.Budget t) met x y old new next sound a b
@@ -81,10 +89,16 @@ allocate_plain : (d : AllocationCreateDesc) (valid : Bool) (met : Environment MT
 allocate_plain d false met x old new none a = (a.0, a.1, ap without_budgets a.2)
 allocate_plain d true met x old new none a = (a.0, a.1, pool_plain (pools.Allocate (request_in a.0 d)) met x old new (none a.0 a.1) a.2)
 
+move_plain : (w : Allocation) (d : AllocationCreateDesc) (again : Bool) (met : Environment MTLHeap) (x : Reply MTLHeap) (old new : Model) → MoveStep w d again met x old new
+    → MoveStep w d again met x (without_budgets old) (without_budgets new)
+move_plain w d false met x old new a = (a.0, a.1, ap without_budgets a.2)
+move_plain w d true met x old new a = pool_plain (pools.ProposeMove w.memory_type_index (piece_of w) (request_of d)) met x old new tt a
+
 pub step_plain : (call : Call) (met : Environment MTLHeap) (x : Reply MTLHeap) (old new : Model) → MeetsNoBudget call old.budgets → Step call met x old new
     → Step call met x (without_budgets old) (without_budgets new)
 step_plain (Allocate d) met x old new none a = allocate_plain d (is_valid d) met x old new none a
 step_plain (Free w) met x old new none a = pool_plain (pools.Free w.memory_type_index (piece_of w)) met x old new tt a
+step_plain (ProposeMove w d) met x old new none a = move_plain w d (is_again w d) met x old new a
 step_plain Commit met x old new none a = (a.0, (a.1.0, ap without_budgets a.1.1))
 step_plain (SetBudget t budget) met x old new none a = absurd none
 step_plain (Budget t) met x old new none a = absurd none

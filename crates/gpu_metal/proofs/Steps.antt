@@ -1,10 +1,11 @@
 -- The calls of an allocator are steps of the model.
-use Rattle.std.proofs.Common.{◌≡◌, refl, sym, ap, subst, ℕ, true, false, Bool, List, Option, Some, Ok, Err, Result, IfOk, IfErr}
+use Rattle.std.proofs.Common.{◌≡◌, refl, sym, ap, subst, ℕ, true, false, Bool, List, Option, Some, None, Ok, Err, Result, IfOk, IfErr}
 use Rattle.gpu_values.specs.Refusal.{Refusal, refusal_of, refusal_in, invalid_allocation_create_desc}
 use Rattle.gpu_values.specs.Report.{report_of}
 use Rattle.gpu_values.specs.declared.error.AllocationError.{AllocationError}
 use Rattle.gpu_values.specs.declared.error.AllocationError.TheVariants.{HostOutOfMemory}
 use Rattle.gpu_values.specs.declared.report.AllocatorReport.{AllocatorReport}
+use Rattle.gpu_block_pieces.specs.Request.{Request}
 use Rattle.gpu_core.specs.declared.piece.Piece.{Piece}
 use Rattle.gpu_device.specs.declared.metal.device.MetalDevice.{Ghosts}
 use Rattle.gpu_device.specs.declared.metal.types.MTLHeap.{MTLHeap}
@@ -12,24 +13,26 @@ use Rattle.gpu_core.specs.Blocks.{total_capacity}
 use Rattle.gpu_core.specs.Budgets.{budget_at, SetsBudget}
 use Rattle.gpu_core.specs.Reports.{whole_report}
 use Rattle.gpu_core.proofs.Options.{none_some, some_same}
+use Rattle.gpu_metal.specs.Describe.{request_of}
 use Rattle.gpu_metal.specs.Setup.{kinds_of_device}
 use Rattle.gpu_metal.specs.declared.describe.AllocationCreateDesc.{AllocationCreateDesc}
 use Rattle.gpu_pool.specs.Allocate.{NothingMet, NoHostMemory}
 use Rattle.gpu_pool.specs.Handles.{all_handles}
 use Rattle.gpu_pool.specs.Reply as replies
-use Rattle.gpu_pool.specs.Reply.{Reply, Error, Done, allocated_as}
+use Rattle.gpu_pool.specs.Reply.{Reply, Error, Done, allocated_as, proposed_as}
 use Rattle.gpu_pool.specs.Source.{result_of}
 use Rattle.gpu_pool.specs.Step as pools
 use Rattle.gpu_pool.proofs.Freeing.{frees_over}
+use Rattle.gpu_pool.proofs.Moving.{proposes_over}
 use Rattle.gpu_pool.proofs.Serving.{serves_over}
 use Rattle.gpu_metal.specs.Allocate.{is_valid, request_in, IsAttempted, AllocatesBy}
 use Rattle.gpu_metal.specs.Blocks.{is_same_heap}
 use Rattle.gpu_metal.specs.Free.{freed_of, Frees}
-use Rattle.gpu_pool.specs.Allocation.{piece_of, Returns}
+use Rattle.gpu_pool.specs.Allocation.{piece_of, Returns, ReturnsPlace, ProposesNamed}
 use Rattle.gpu_metal.specs.Live.{Allocation}
 use Rattle.gpu_metal.specs.Source.{SourceState, AsksBlock, GivesHeapBack, CommitsSet}
 use Rattle.gpu_metal.specs.State.{State, pool_of, seen_of, model_of}
-use Rattle.gpu_metal.specs.Step.{Free, Commit, SetBudget, Budget, Capacity, LiveHeaps, Report, SeesQuestion, SeesHeapFreed, AllocateStep, IsStep, Replies, IsAllocateStep, freed_as, reply_of_done, reply_of_report}
+use Rattle.gpu_metal.specs.Step.{Free, Commit, SetBudget, Budget, Capacity, LiveHeaps, Report, SeesQuestion, SeesHeapFreed, AllocateStep, is_again, MoveStep, IsStep, Replies, RepliesPlace, IsAllocateStep, IsMoveStep, freed_as, reply_of_done, reply_of_report}
 
 module _ {D : Type 0} (g : Ghosts D) where
   sees_question : (old new : SourceState D) (t size : ℕ) (answer : Result MTLHeap Refusal) → AsksBlock g old t size tt answer new → SeesQuestion (seen_of g old) t size tt answer (seen_of g new)
@@ -88,6 +91,45 @@ module _ {D : Type 0} (g : Ghosts D) where
 
   pub allocate_step : (d : AllocationCreateDesc) (old new : State D) (result : Result Allocation AllocationError) → AllocatesBy g d (is_valid d) old result new → IsAllocateStep g d result old new
   allocate_step d old new result a = step_by d (is_valid d) refl old new result a
+
+  -- ---- a second place
+
+  placed_replies : (t : ℕ) (d : AllocationCreateDesc) (result : Result (Option Allocation) AllocationError) (answer : Result (Option (Piece MTLHeap)) Refusal) → ReturnsPlace t d.name.now result answer
+      → RepliesPlace d result (proposed_as t answer)
+  placed_replies t d (Ok (Some a)) (Ok (Some p)) h = h
+  placed_replies t d (Ok (Some a)) (Ok None) h = absurd h
+  placed_replies t d (Ok (Some a)) (Err r) h = absurd h
+  placed_replies t d (Ok None) (Ok (Some p)) h = absurd h
+  placed_replies t d (Ok None) (Ok None) h = tt
+  placed_replies t d (Ok None) (Err r) h = absurd h
+  placed_replies t d (Err e) (Ok o) h = absurd h
+  placed_replies t d (Err e) (Err r) h = h
+
+  pub move_step : (a : Allocation) (d : AllocationCreateDesc) (r : Request) → r ≡ request_of d → (old new : State D) (result : Result (Option Allocation) AllocationError) → is_again a d ≡ true
+      → ProposesNamed is_same_heap a r (pool_of old) result (pool_of new) → IsMoveStep g a d result old new
+  move_step a d r asks old new result again named =
+      let t = a.memory_type_index in
+      let k = subst (λ (q : Request). ProposesNamed is_same_heap a q (pool_of old) result (pool_of new)) asks named in
+      let met = k.proposes.0 in
+      let reply : Reply MTLHeap = proposed_as t k.answer in
+      let here : MoveStep a d true met reply (model_of g old) (model_of g new) =
+      (k.answer, refl, proposes_over (seen_of g) is_same_heap t (piece_of a) (request_of d) (pool_of old) met k.answer (pool_of new) k.proposes.1) in
+      record {
+        reply = reply;
+        step = (met, subst (λ v. MoveStep a d v met reply (model_of g old) (model_of g new)) (sym again) here);
+        replies = placed_replies t d result k.answer k.returns;
+      }
+
+  -- what isn't the request again is refused
+  pub refuse_step : (a : Allocation) (d : AllocationCreateDesc) (s : State D) (e : AllocationError) → refusal_of e ≡ invalid_allocation_create_desc → is_again a d ≡ false → IsMoveStep g a d (Err e) s s
+  refuse_step a d s e is other = record {
+    reply = Error invalid_allocation_create_desc;
+    step = (
+      NothingMet,
+      subst (λ v. MoveStep a d v NothingMet (Error invalid_allocation_create_desc) (model_of g s) (model_of g s)) (sym other) (refl, refl, refl),
+    );
+    replies = is;
+  }
 
   -- ---- a free
 

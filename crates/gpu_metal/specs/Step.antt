@@ -1,5 +1,5 @@
 -- An allocator as a model: what each call returns and leaves of its blocks and of what is seen of its device, by what it met with.
-use Rattle.std.specs.Prelude.{◌≡◌, ℕ, Bool, true, false, slice_get, Option, Some, None, Result, Ok, Err}
+use Rattle.std.specs.Prelude.{◌≡◌, ℕ, ◌==◌, ◌&&◌, Bool, true, false, slice_get, Option, Some, None, Result, Ok, Err}
 use Rattle.gpu_values.specs.Refusal.{Refusal, refusal_of, invalid_allocation_create_desc}
 use Rattle.gpu_values.specs.Report.{report_of}
 use Rattle.gpu_values.specs.declared.report.AllocatorReport.{AllocatorReport}
@@ -9,6 +9,7 @@ use Rattle.gpu_device.specs.declared.metal.device.MetalDevice.{Ghosts}
 use Rattle.gpu_device.specs.declared.metal.types.HeapDescriptor.{HeapDescriptor}
 use Rattle.gpu_device.specs.declared.metal.types.MTLHeap.{MTLHeap}
 use Rattle.gpu_core.specs.Budgets.{Budgets, budget_at}
+use Rattle.gpu_metal.specs.Describe.{request_of}
 use Rattle.gpu_metal.specs.HeapAnswer.{question_recorded}
 use Rattle.gpu_metal.specs.Residency.{release_recorded, commit_recorded}
 use Rattle.gpu_metal.specs.MemoryKinds.{locations, heap_descriptor, IsFirstServing}
@@ -16,7 +17,7 @@ use Rattle.gpu_metal.specs.Setup.{kinds_of_device}
 use Rattle.gpu_metal.specs.declared.describe.AllocationCreateDesc.{AllocationCreateDesc}
 use Rattle.gpu_pool.specs.Allocate.{Environment, NothingMet}
 use Rattle.gpu_pool.specs.Reply as replies
-use Rattle.gpu_pool.specs.Reply.{Reply, Allocated, Error, Done}
+use Rattle.gpu_pool.specs.Reply.{Reply, Allocated, Error, SecondPlace, Done}
 use Rattle.gpu_pool.specs.Step as pools
 use Rattle.gpu_metal.specs.Allocate.{is_valid, request_in}
 use Rattle.gpu_metal.specs.Blocks.{is_same_heap}
@@ -29,6 +30,7 @@ use Rattle.gpu_metal.specs.State.{State, Seen, Model, model_of}
 pub data Call : Type 0 where
   Allocate : (d : AllocationCreateDesc) → Call
   Free : (a : Allocation) → Call
+  ProposeMove : (a : Allocation) (d : AllocationCreateDesc) → Call
   Commit : Call
   SetBudget : (t : ℕ) (budget : Option ℕ) → Call
   Budget : (t : ℕ) → Call
@@ -64,6 +66,15 @@ abbrev pub AllocateStep : AllocationCreateDesc → (valid : Bool) → Environmen
 AllocateStep d false met reply old new = (met ≡ NothingMet) × (reply ≡ Error invalid_allocation_create_desc) × (new ≡ old)
 AllocateStep d true met reply old new = (t : ℕ) × IsFirstServing d.location t × PoolStep old (pools.Allocate (request_in t d)) met reply new
 
+-- the request again: valid, and of the allocation's size
+abbrev pub is_again : Allocation → AllocationCreateDesc → Bool
+is_again a d = is_valid d && (d.size == a.size)
+
+-- a second place for the request again
+abbrev pub MoveStep : Allocation → AllocationCreateDesc → (again : Bool) → Environment MTLHeap → Reply MTLHeap → Model → Model → Type 0
+MoveStep a d false met reply old new = (met ≡ NothingMet) × (reply ≡ Error invalid_allocation_create_desc) × (new ≡ old)
+MoveStep a d true met reply old new = PoolStep old (pools.ProposeMove a.memory_type_index (piece_of a) (request_of d)) met reply new
+
 -- a device whose set was committed: its members are the committed ones
 abbrev pub with_commit : Seen → Seen
 with_commit old = record old { residency = committed old.residency; history = commit_recorded old.set old.history }
@@ -76,6 +87,7 @@ CommitStep reply old new = (reply ≡ Done) × (new ≡ record old { source = wi
 abbrev pub Step : Call → Environment MTLHeap → Reply MTLHeap → Model → Model → Type 0
 Step (Allocate d) met reply old new = AllocateStep d (is_valid d) met reply old new
 Step (Free a) met reply old new = PoolStep old (pools.Free a.memory_type_index (piece_of a)) met reply new
+Step (ProposeMove a d) met reply old new = MoveStep a d (is_again a d) met reply old new
 Step Commit met reply old new = (met ≡ NothingMet) × CommitStep reply old new
 Step (SetBudget t budget) met reply old new = PoolStep old (pools.SetBudget t budget) met reply new
 Step (Budget t) met reply old new = PoolStep old (pools.Budget t) met reply new
@@ -100,6 +112,19 @@ pub record IsAllocateStep {D : Type 0} (g : Ghosts D) (d : AllocationCreateDesc)
   pub reply : Reply MTLHeap
   pub step : IsStep g (Allocate d) reply old new
   pub replies : Replies d result reply
+
+-- the same of a second place's caller
+abbrev pub RepliesPlace : AllocationCreateDesc → Result (Option Allocation) AllocationError → Reply MTLHeap → Type 0
+RepliesPlace d (Ok (Some a)) (SecondPlace t (Some p)) = IsAllocated t d.name.now p a
+RepliesPlace d (Ok None) (SecondPlace t None) = Unit {0}
+RepliesPlace d (Err e) (Error r) = refusal_of e ≡ r
+RepliesPlace d _ _ = ⊥
+
+-- looking for a second place is a step of the model, and its caller gets what the model replies
+pub record IsMoveStep {D : Type 0} (g : Ghosts D) (a : Allocation) (d : AllocationCreateDesc) (result : Result (Option Allocation) AllocationError) (old new : State D) : Type 0 where
+  pub reply : Reply MTLHeap
+  pub step : IsStep g (ProposeMove a d) reply old new
+  pub replies : RepliesPlace d result reply
 
 -- the reply to a free
 abbrev pub freed_as : Result (Unit {0}) (AllocationError × Allocation) → Reply MTLHeap

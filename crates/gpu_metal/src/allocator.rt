@@ -1,6 +1,6 @@
 //! The allocator: blocks of heaps by memory type, and the calls that share them out.
 
-ghost use Rattle.std.specs.Prelude.{◌≡◌, ◌↔◌, ◌%◌, ◌<◌, [], All, None, IfOk, IfErr, IsTrue, length, option_copied};
+ghost use Rattle.std.specs.Prelude.{◌≡◌, ◌↔◌, ◌%◌, ◌<◌, [], All, None, IfOk, IfErr, OnErr, IfSome, IsNone, IsTrue, length, option_copied};
 ghost use Rattle.gpu_values.specs.Refusal.{refusal_of};
 ghost use Rattle.gpu_values.specs.declared.error.AllocationError.TheVariants.{HostOutOfMemory};
 ghost use Rattle.gpu_core.specs.Blocks.{total_capacity, BlocksWellFormed, EachKeepsOneEmptyAtMost};
@@ -17,14 +17,15 @@ ghost use Rattle.gpu_metal.specs.Allocate.{Allocates};
 ghost use Rattle.gpu_metal.specs.Apart.{IsInside, SharesNoByte};
 ghost use Rattle.gpu_metal.specs.Blocks.{is_same_heap, residency_of, left_behind, HoldsJustLiveBlocks};
 ghost use Rattle.gpu_metal.specs.Free.{Frees};
-ghost use Rattle.gpu_pool.specs.Allocation.{AreDistinct, IsNewlyLive, StayLive};
+ghost use Rattle.gpu_pool.specs.Allocation.{AreDistinct, IsNewlyLive, IsSecondPlace, StayLive};
 ghost use Rattle.gpu_metal.specs.Live.{Allocation, IsLive};
-ghost use Rattle.gpu_metal.specs.Step.{IsStep, IsAllocateStep, Free, Commit, SetBudget, Budget, Capacity, LiveHeaps, Report, freed_as, reply_of_done, reply_of_report};
+ghost use Rattle.gpu_metal.specs.Step.{IsStep, IsAllocateStep, IsMoveStep, Free, Commit, SetBudget, Budget, Capacity, LiveHeaps, Report, freed_as, reply_of_done, reply_of_report};
 
 use crate::logging::{log_allocate, log_free};
 use crate::source::MetalBlocks;
 use crate::{
-    Allocation, AllocationCreateDesc, AllocatorCreateDesc, empty_types, request_of, type_for,
+    Allocation, AllocationCreateDesc, AllocatorCreateDesc, empty_types, is_again, request_of,
+    type_for,
 };
 use gpu_core::MemoryTypes;
 use gpu_device::metal::{MTLHeap, MTLResidencySet, MetalDevice};
@@ -140,6 +141,32 @@ impl<D: MetalDevice> Allocator<D> {
             Ok(()) => Ok(()),
             Err(error) => Err((error, allocation)),
         }
+    }
+
+    /// A second place for a live allocation, in a block that is there and in a higher slot, for the request that it was made for:
+    /// where a new allocation of it would lie now, if that is higher. `None` where it isn't live, or no such block has a place.
+    /// The device is asked for nothing. Both are live until one of them is freed: the first once what lies there is copied, or
+    /// the second, which gives the move up. Its location isn't looked at. `InvalidAllocationCreateDesc` where the request isn't
+    /// valid or of another size, else `HostOutOfMemory`; then nothing changes.
+    pub fn propose_move(
+        &mut self,
+        allocation: &Allocation,
+        desc: &AllocationCreateDesc,
+    ) -> Result<Option<Allocation>>
+        // what it is refused for, which place it finds or that there is none, and that nothing else changes
+        ensures step { IsMoveStep D.MetalDevice allocation.now desc.now result self.old self.new }
+        ensures gives { IfOk result (λ o. IfSome o (λ to. IsSecondPlace is_same_heap
+            desc.now.alignment self.old.slots allocation.now to self.new.slots)) }
+        ensures none { IfOk result (λ o. IsNone o → self.new ≡ self.old) }
+        ensures refused { OnErr result (self.new ≡ self.old) }
+        ensures others { self.new ≡ record self.old { slots = self.new.slots } }
+        ensures keeps { StayLive is_same_heap self.old.slots self.new.slots }
+    {
+        if !is_again(allocation, desc) {
+            return Err(AllocationError::InvalidAllocationCreateDesc);
+        }
+        self.pool
+            .propose_move_named(self.alloc, allocation, &request_of(desc))
     }
 
     /// The heaps of the live blocks by memory type, then by slot. It takes no memory.

@@ -4,7 +4,9 @@ ghost use Rattle.std.specs.Prelude.{◌≡◌, false, MatchResult, IfOk};
 ghost use Rattle.gpu_values.specs.Refusal.{refusal_of};
 ghost use Rattle.gpu_core.specs.TypeTake.{asked};
 ghost use Rattle.gpu_metal.specs.Describe.{buffer_storage_mode, IsTextureLocation, IsUnknownMode, request_of};
+ghost use Rattle.gpu_metal.specs.Step.{is_again};
 
+use crate::Allocation;
 use gpu_core::Request;
 use gpu_device::metal::{MetalDevice, StorageMode, TextureDescriptor};
 use gpu_values::{
@@ -164,4 +166,11 @@ pub fn request_of<'a>(desc: &AllocationCreateDesc<'a>) -> Request<'a>
         dedicated: false,
         name: desc.name,
     }
+}
+
+/// Whether the description is an allocation's request again: valid, and of its size.
+pub fn is_again(allocation: &Allocation, desc: &AllocationCreateDesc) -> bool
+    ensures { result ≡ is_again allocation.now desc.now }
+{
+    desc.size != 0 && desc.alignment.is_power_of_two() && desc.size == allocation.size()
 }

@@ -12,6 +12,7 @@ mod setup;
 mod source;
 
 pub use allocator::{Allocator, Heaps};
+use describe::is_again;
 pub use describe::{
     AllocationCreateDesc, AllocatorCreateDesc, CommittedAllocationStatistics, request_of,
 };

@@ -1,6 +1,7 @@
 //! The Metal allocator.
 
 mod log_lines;
+mod moves;
 mod refusals;
 mod refused;
 mod sessions;

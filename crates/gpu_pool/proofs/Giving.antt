@@ -1,9 +1,9 @@
 -- An allocation is live as its piece is, and as distinct.
-use Rattle.std.proofs.Common.{◌∙◌, sym, ap, subst, Bool}
+use Rattle.std.proofs.Common.{◌≡◌, ◌∙◌, sym, ap, subst, ℕ, ◌<◌, ◌%◌, Bool}
 use Rattle.std.specs.Int.NonZero.{non_zero_u64_get}
 use Rattle.gpu_core.specs.declared.piece.Piece.{Piece}
 use Rattle.gpu_core.specs.Blocks.{Slots}
-use Rattle.gpu_pool.specs.Allocation.{piece_of, IsAllocated, IsNewlyLive}
+use Rattle.gpu_pool.specs.Allocation.{piece_of, IsAllocated, IsNewlyLive, IsSecondPlace}
 use Rattle.gpu_pool.specs.Live as live
 use Rattle.gpu_pool.specs.declared.allocation.Allocation.{Allocation}
 
@@ -14,3 +14,14 @@ given_live {H} eq old new t name p a is h = (
       h.1 b.memory_type_index (piece_of b) was (types ∙ is.memory_type) (slots ∙ ap (λ (q : Piece H). q.slot) is.piece)
       (numbers ∙ ap (λ (q : Piece H). non_zero_u64_get q.chunk_id) is.piece),
 )
+
+-- the allocation of a second place
+pub second_place : {H : Type 0} (eq : H → H → Bool) (alignment : ℕ) (old new : Slots H) (from to : Allocation H) (name : _) (q : Piece H) → IsAllocated from.memory_type_index name q to
+    → live.IsNewlyLive eq old new from.memory_type_index q → q.offset % alignment ≡ 0 → q.size ≡ from.size → from.memory_block_index < q.slot → IsSecondPlace eq alignment old from to new
+second_place {H} eq alignment old new from to name q is live aligned size ahead = record {
+  live = given_live eq old new from.memory_type_index name q to is live;
+  memory_type = is.memory_type;
+  size = ap (λ (p : Piece H). p.size) is.piece ∙ size;
+  aligned = ap (λ (p : Piece H). p.offset % alignment) is.piece ∙ aligned;
+  ahead = subst (λ n. from.memory_block_index < n) (sym (ap (λ (p : Piece H). p.slot) is.piece)) ahead;
+}

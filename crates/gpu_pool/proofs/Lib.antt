@@ -15,3 +15,4 @@ pub mod Giving
 pub mod Preparing
 pub mod Agreeing
 pub mod Beginning
+pub mod Moving

@@ -2,19 +2,22 @@
 use Rattle.std.proofs.Common.{◌≡◌, ◌∙◌, refl, sym, ap, subst, ℕ, Bool, List, slice_set, Option, Some, None, Ok, Err, Result, IsTrue, arith}
 use Rattle.gpu_values.specs.Refusal.{Refusal}
 use Rattle.gpu_core.specs.TypeRelease.{has_others}
-use Rattle.gpu_core.specs.TypeState.{TypeState, slot_at, capacity_of}
+use Rattle.gpu_block_pieces.specs.Request.{Request}
+use Rattle.gpu_core.specs.TypeState.{TypeState, Slot, slot_at, capacity_of}
 use Rattle.gpu_core.specs.TypeTake.{Installs}
 use Rattle.gpu_core.specs.declared.piece.Piece.{Piece}
+use Rattle.gpu_core.proofs.Moving.{one_proposal, proposal_or_none}
 use Rattle.gpu_core.proofs.OneOutcome.{prepared_once, needed_once, serves_or_needs, installed_once, released_once, refusal_once, renamed_once, name_refusal_once}
 use Rattle.gpu_core.specs.Blocks.{slots_at, total_capacity}
 use Rattle.gpu_core.specs.Budgets.{SetsBudget, budget_at, block_refusal}
 use Rattle.gpu_core.proofs.Options.{some_same}
 use Rattle.gpu_pool.specs.Allocate.{RequestAt, Environment, NothingMet, NoHostMemory, Answered, type_asked, with_slots, NeedsNewBlock, Serves}
 use Rattle.gpu_pool.specs.Free.{GivesBackAny, Frees}
+use Rattle.gpu_pool.specs.Move.{ProposesBy}
 use Rattle.gpu_pool.specs.Rename.{RenamesBy}
-use Rattle.gpu_pool.specs.Reply.{Reply, allocated_as, reply_of_done, reported_as, leaked_as}
+use Rattle.gpu_pool.specs.Reply.{Reply, allocated_as, proposed_as, reply_of_done, reported_as, leaked_as}
 use Rattle.gpu_pool.specs.State.{State, kind_at, IsSoundAt}
-use Rattle.gpu_pool.specs.Step.{Call, Allocate, Free, Rename, SetBudget, Budget, Capacity, Handles, Report, LeakTexts, refusal_in, Makes, SetsBudgetOf, Step, AskDecides, GiveBackDecides}
+use Rattle.gpu_pool.specs.Step.{Call, Allocate, Free, Rename, ProposeMove, SetBudget, Budget, Capacity, Handles, Report, LeakTexts, refusal_in, Makes, SetsBudgetOf, Step, AskDecides, GiveBackDecides}
 
 alike : {S H : Type 0} (a b : State S H) → a.source ≡ b.source → a.sizes ≡ b.sizes → a.slots ≡ b.slots → a.budgets ≡ b.budgets → a ≡ b
 alike a b source sizes slots budgets = λ i. record { source = source i; sizes = sizes i; slots = slots i; budgets = budgets i }
@@ -110,6 +113,29 @@ module _ {S H : Type 0} (kinds : List (Bool × ℕ)) (eq : H → H → Bool) (t 
   renames_once NoHostMemory (Err e) (Err r) new next a b = (ap Err (a.1 ∙ sym b.1), a.2 ∙ sym b.2)
   renames_once (Answered size answer) x y new next a b = absurd a
 
+-- ---- a proposal
+
+module _ {S H : Type 0} (kinds : List (Bool × ℕ)) (eq : H → H → Bool) (t : ℕ) (p : Piece H) (r : Request) (old : State S H) (sound : IsSoundAt kinds old.slots t) where
+  abbrev there : List (Option (Slot H))
+  there = slots_at old.slots t
+
+  pub proposes_once : (met : Environment H) (x y : Result (Option (Piece H)) Refusal) (new next : State S H) → ProposesBy eq t p r old met x new → ProposesBy eq t p r old met y next → (x ≡ y) × (new ≡ next)
+  proposes_once NothingMet (Ok (Some to)) (Ok (Some other)) new next a b =
+      let q = a.0.proposes in
+      let s = b.0.proposes in
+      let once = one_proposal (kind_at kinds t).1 there q.left s.left r p to other sound q.proposes s.proposes in
+      let slots : new.slots ≡ next.slots = q.slots ∙ (ap (slice_set old.slots t) once.1 ∙ sym s.slots) in
+      (ap (λ (k : Piece H). Ok (Some k)) once.0, a.1 ∙ (λ i. record old { slots = slots i }) ∙ sym b.1)
+  proposes_once NothingMet (Ok (Some to)) (Ok None) new next a b = absurd (proposal_or_none there a.0.proposes.left r p to a.0.proposes.proposes (b.0 a.0.live))
+  proposes_once NothingMet (Ok None) (Ok (Some to)) new next a b = absurd (proposal_or_none there b.0.proposes.left r p to b.0.proposes.proposes (a.0 b.0.live))
+  proposes_once NothingMet (Ok None) (Ok None) new next a b = (refl, a.1 ∙ sym b.1)
+  proposes_once NothingMet (Ok o) (Err e) new next a b = absurd b
+  proposes_once NothingMet (Err e) y new next a b = absurd a
+  proposes_once NoHostMemory (Ok o) y new next a b = absurd a
+  proposes_once NoHostMemory (Err e) (Ok o) new next a b = absurd b
+  proposes_once NoHostMemory (Err e) (Err f) new next a b = (ap Err (a.0 ∙ sym b.0), a.1 ∙ sym b.1)
+  proposes_once (Answered size answer) x y new next a b = absurd a
+
 -- ---- budgets
 
 sets_by : {S H : Type 0} (t : ℕ) (budget : Option ℕ) (old : State S H) (x y : Result (Unit {0}) Refusal) (new next : State S H) → SetsBudget t budget old.budgets (refusal_in x) new.budgets
@@ -151,6 +177,9 @@ step_once asks gives_back eq ask back kinds (Free t p) met x y old new next soun
 step_once asks gives_back eq ask back kinds (Rename t p name) met x y old new next sound a b =
     let once = renames_once kinds eq t p name old (sound t) met a.0 b.0 new next a.2 b.2 in
     (a.1 ∙ ap reply_of_done once.0 ∙ sym b.1, once.1)
+step_once asks gives_back eq ask back kinds (ProposeMove t p r) met x y old new next sound a b =
+    let once = proposes_once kinds eq t p r old (sound t) met a.0 b.0 new next a.2 b.2 in
+    (a.1 ∙ ap (proposed_as t) once.0 ∙ sym b.1, once.1)
 step_once asks gives_back eq ask back kinds (SetBudget t budget) met x y old new next sound a b =
     let once = sets_once t budget old a.1 b.1 new next a.3 b.3 in
     (a.2 ∙ ap reply_of_done once.0 ∙ sym b.2, once.1)

@@ -1,6 +1,7 @@
 -- A call that meets no budget is the same step where there are no budgets.
 use Rattle.std.proofs.Common.{◌≡◌, ◌∙◌, sym, ap, subst, ℕ, Bool, List, Option, Some, None, Ok, Err, Result}
 use Rattle.gpu_values.specs.Refusal.{Refusal}
+use Rattle.gpu_block_pieces.specs.Request.{Request}
 use Rattle.gpu_core.specs.TypeState.{TypeState, capacity_of}
 use Rattle.gpu_core.specs.TypeTake.{has_dedicated_block, NeedsBlock}
 use Rattle.gpu_core.specs.declared.piece.Piece.{Piece}
@@ -8,10 +9,11 @@ use Rattle.gpu_core.specs.Blocks.{slots_at, total_capacity}
 use Rattle.gpu_core.specs.Budgets.{budget_at, block_refusal}
 use Rattle.gpu_pool.specs.Allocate.{RequestAt, Environment, NothingMet, NoHostMemory, Answered, type_asked, NeedsNewBlock, Serves}
 use Rattle.gpu_pool.specs.Free.{Frees}
+use Rattle.gpu_pool.specs.Move.{ProposesBy}
 use Rattle.gpu_pool.specs.Rename.{RenamesBy}
 use Rattle.gpu_pool.specs.Reply.{Reply}
 use Rattle.gpu_pool.specs.State.{State, kind_at, without_budgets}
-use Rattle.gpu_pool.specs.Step.{Call, Allocate, Free, Rename, SetBudget, Budget, Capacity, Handles, Report, LeakTexts, Step, MeetsNoBudget}
+use Rattle.gpu_pool.specs.Step.{Call, Allocate, Free, Rename, ProposeMove, SetBudget, Budget, Capacity, Handles, Report, LeakTexts, Step, MeetsNoBudget}
 
 module _ {S H X : Type 0} (kinds : List (Bool × ℕ)) (asks : S → ℕ → ℕ → X → Result H Refusal → S → Type 0) (q : RequestAt X) (old : State S H) (none : budget_at old.budgets q.memory_type ≡ None) where
   abbrev plain : State S H
@@ -69,12 +71,22 @@ renames_plain eq t p name old NoHostMemory (Ok u) new r = absurd r
 renames_plain eq t p name old NoHostMemory (Err e) new r = (r.0, r.1, ap without_budgets r.2)
 renames_plain eq t p name old (Answered size answer) result new r = absurd r
 
+pub proposes_plain : {S H : Type 0} (eq : H → H → Bool) (t : ℕ) (p : Piece H) (r : Request) (old : State S H) (met : Environment H) (answer : Result (Option (Piece H)) Refusal) (new : State S H)
+    → ProposesBy eq t p r old met answer new → ProposesBy eq t p r (without_budgets old) met answer (without_budgets new)
+proposes_plain eq t p r old NothingMet (Ok (Some to)) new a = (a.0, ap without_budgets a.1)
+proposes_plain eq t p r old NothingMet (Ok None) new a = (a.0, ap without_budgets a.1)
+proposes_plain eq t p r old NothingMet (Err e) new a = absurd a
+proposes_plain eq t p r old NoHostMemory (Ok o) new a = absurd a
+proposes_plain eq t p r old NoHostMemory (Err e) new a = (a.0, ap without_budgets a.1)
+proposes_plain eq t p r old (Answered size answer) result new a = absurd a
+
 pub step_plain : {S H X : Type 0} (asks : S → ℕ → ℕ → X → Result H Refusal → S → Type 0) (gives_back : S → H → S → Type 0) (eq : H → H → Bool) (kinds : List (Bool × ℕ)) (call : Call H X)
     (met : Environment H) (reply : Reply H) (old new : State S H) → MeetsNoBudget call old.budgets → Step kinds asks gives_back eq old call met reply new
     → Step kinds asks gives_back eq (without_budgets old) call met reply (without_budgets new)
 step_plain asks gives_back eq kinds (Allocate q) met reply old new none a = (a.0, a.1, serves_plain kinds asks q old none met a.0 new a.2)
 step_plain asks gives_back eq kinds (Free t p) met reply old new none a = (a.0, a.1, a.2, frees_plain gives_back eq t p old a.1 new a.3)
 step_plain asks gives_back eq kinds (Rename t p name) met reply old new none a = (a.0, a.1, renames_plain eq t p name old met a.0 new a.2)
+step_plain asks gives_back eq kinds (ProposeMove t p r) met reply old new none a = (a.0, a.1, proposes_plain eq t p r old met a.0 new a.2)
 step_plain asks gives_back eq kinds (SetBudget t budget) met reply old new none a = absurd none
 step_plain asks gives_back eq kinds (Budget t) met reply old new none a = absurd none
 step_plain asks gives_back eq kinds Capacity met reply old new none a = (a.0, a.1, ap without_budgets a.2)

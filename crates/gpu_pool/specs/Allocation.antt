@@ -1,12 +1,14 @@
 -- An allocation, as its owner holds it, and the piece that it stands for.
-use Rattle.std.specs.Prelude.{◌≡◌, ℕ, Bool, List, string_bytes, Result, Ok, Err}
+use Rattle.std.specs.Prelude.{◌≡◌, ℕ, ◌<◌, ◌%◌, Bool, List, string_bytes, Option, Some, None, Result, Ok, Err}
 use Rattle.gpu_values.specs.Refusal.{Refusal, refusal_of}
 use Rattle.gpu_values.specs.declared.error.AllocationError.{AllocationError}
+use Rattle.gpu_block_pieces.specs.Request.{Request}
 use Rattle.gpu_core.specs.declared.piece.Piece.{Piece}
 use Rattle.gpu_core.specs.Apart as pieces
 use Rattle.gpu_core.specs.Blocks.{Slots}
 use Rattle.gpu_pool.specs.Allocate as pools
 use Rattle.gpu_pool.specs.Live as live
+use Rattle.gpu_pool.specs.Move.{Proposes}
 use Rattle.gpu_pool.specs.Rename as renaming
 use Rattle.gpu_pool.specs.Source.{result_of}
 use Rattle.gpu_pool.specs.State.{State}
@@ -67,3 +69,26 @@ NamesBy a name (Err e) b = b ≡ a
 pub record RenamesNamed {S H : Type 0} (eq : H → H → Bool) (a : Allocation H) (name : List ℕ) (old : State S H) (result : Result (Unit {0}) AllocationError) (b : Allocation H) (new : State S H) : Type 0 where
   pub record_is : renaming.Renames eq a.memory_type_index (piece_of a) name old (result_of result) new
   pub allocation_is : NamesBy a name result b
+
+-- ---- moves
+
+-- a second place for what the first allocation holds: live, and none that was live before; of the same memory type and size, aligned as asked, in a higher slot
+pub record IsSecondPlace {H : Type 0} (eq : H → H → Bool) (alignment : ℕ) (old : Slots H) (from to : Allocation H) (new : Slots H) : Type 0 where
+  pub live : IsNewlyLive eq old new to
+  pub memory_type : to.memory_type_index ≡ from.memory_type_index
+  pub size : to.size ≡ from.size
+  pub aligned : to.offset % alignment ≡ 0
+  pub ahead : from.memory_block_index < to.memory_block_index
+
+-- the caller's allocation is the pool's second place, under the name that was asked for
+abbrev pub ReturnsPlace : {H : Type 0} → (t : ℕ) → (name : List ℕ) → Result (Option (Allocation H)) AllocationError → Result (Option (Piece H)) Refusal → Type 0
+ReturnsPlace t name (Ok (Some a)) (Ok (Some p)) = IsAllocated t name p a
+ReturnsPlace t name (Ok None) (Ok None) = Unit {0}
+ReturnsPlace t name (Err e) (Err r) = refusal_of e ≡ r
+ReturnsPlace t name _ _ = ⊥
+
+-- a second place is looked for, and the allocation's owner has it under the request's name
+pub record ProposesNamed {S H : Type 0} (eq : H → H → Bool) (from : Allocation H) (r : Request) (old : State S H) (result : Result (Option (Allocation H)) AllocationError) (new : State S H) : Type 0 where
+  pub answer : Result (Option (Piece H)) Refusal
+  pub proposes : Proposes eq from.memory_type_index (piece_of from) r old answer new
+  pub returns : ReturnsPlace from.memory_type_index r.name result answer

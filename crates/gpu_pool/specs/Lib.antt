@@ -11,5 +11,6 @@ pub mod Told
 pub mod RequestState
 pub mod Begin
 pub mod Idle
+pub mod Move
 pub mod Reply
 pub mod Step

@@ -9,6 +9,8 @@ pub data Reply (H : Type 0) : Type 0 where
   -- a piece of the t-th memory type
   Allocated : (t : ℕ) (piece : Piece H) → Reply H
   Error : (refusal : Refusal) → Reply H
+  -- a second place for a piece of the t-th memory type, None where it stays
+  SecondPlace : (t : ℕ) (place : Option (Piece H)) → Reply H
   Done : Reply H
   -- a memory type's budget, None where it has none
   Budget : (budget : Option ℕ) → Reply H
@@ -21,6 +23,11 @@ pub data Reply (H : Type 0) : Type 0 where
 abbrev pub allocated_as : {H : Type 0} → (t : ℕ) → Result (Piece H) Refusal → Reply H
 allocated_as t (Ok p) = Allocated t p
 allocated_as t (Err e) = Error e
+
+-- a proposal's reply: the second place, that the piece stays, or why neither
+abbrev pub proposed_as : {H : Type 0} → (t : ℕ) → Result (Option (Piece H)) Refusal → Reply H
+proposed_as t (Ok place) = SecondPlace t place
+proposed_as t (Err e) = Error e
 
 -- the reply of a call that is done, or refused
 abbrev pub reply_of_done : {H : Type 0} → Result (Unit {0}) Refusal → Reply H

@@ -1,6 +1,7 @@
 -- A pool as a model: what each call returns and leaves, by what it met with.
 use Rattle.std.specs.Prelude.{◌≡◌, ℕ, Bool, List, map, Option, Some, None, Result, Ok, Err}
 use Rattle.gpu_block_pieces.specs.Leak.{leak_text}
+use Rattle.gpu_block_pieces.specs.Request.{Request}
 use Rattle.gpu_values.specs.Refusal.{Refusal, host_out_of_memory}
 use Rattle.gpu_values.specs.Report as reports
 use Rattle.gpu_core.specs.declared.piece.Piece.{Piece}
@@ -11,9 +12,10 @@ use Rattle.gpu_core.specs.Reports.{whole_report}
 use Rattle.gpu_pool.specs.Allocate.{RequestAt, Environment, NothingMet, NoHostMemory, Answered, Serves}
 use Rattle.gpu_pool.specs.Free.{Frees}
 use Rattle.gpu_pool.specs.Handles.{all_handles}
+use Rattle.gpu_pool.specs.Move.{ProposesBy}
 use Rattle.gpu_pool.specs.Rename.{RenamesBy}
 use Rattle.gpu_pool.specs.Reply as replies
-use Rattle.gpu_pool.specs.Reply.{Reply, allocated_as, reply_of_done, reported_as, leaked_as}
+use Rattle.gpu_pool.specs.Reply.{Reply, allocated_as, proposed_as, reply_of_done, reported_as, leaked_as}
 use Rattle.gpu_pool.specs.State.{State}
 
 -- a call of a pool
@@ -21,6 +23,7 @@ pub data Call (H X : Type 0) : Type 0 where
   Allocate : (request : RequestAt X) → Call H X
   Free : (t : ℕ) (piece : Piece H) → Call H X
   Rename : (t : ℕ) (piece : Piece H) (name : List ℕ) → Call H X
+  ProposeMove : (t : ℕ) (piece : Piece H) (request : Request) → Call H X
   SetBudget : (t : ℕ) (budget : Option ℕ) → Call H X
   Budget : (t : ℕ) → Call H X
   Capacity : Call H X
@@ -53,6 +56,7 @@ module _ {S H X : Type 0} (kinds : List (Bool × ℕ)) (asks : S → ℕ → ℕ
   Step old (Allocate q) met reply new = (answer : Result (Piece H) Refusal) × (reply ≡ allocated_as q.memory_type answer) × Serves kinds asks q old met answer new
   Step old (Free t p) met reply new = (met ≡ NothingMet) × (answer : Result (Unit {0}) Refusal) × (reply ≡ reply_of_done answer) × Frees gives_back eq t p old answer new
   Step old (Rename t p name) met reply new = (answer : Result (Unit {0}) Refusal) × (reply ≡ reply_of_done answer) × RenamesBy eq t p name old met answer new
+  Step old (ProposeMove t p r) met reply new = (answer : Result (Option (Piece H)) Refusal) × (reply ≡ proposed_as t answer) × ProposesBy eq t p r old met answer new
   Step old (SetBudget t budget) met reply new = (met ≡ NothingMet) × (answer : Result (Unit {0}) Refusal) × (reply ≡ reply_of_done answer) × SetsBudgetOf t budget old answer new
   Step old (Budget t) met reply new = (met ≡ NothingMet) × (reply ≡ replies.Budget (budget_at old.budgets t)) × (new ≡ old)
   Step old Capacity met reply new = (met ≡ NothingMet) × (reply ≡ replies.Capacity (total_capacity old.slots)) × (new ≡ old)

@@ -1,10 +1,11 @@
 //! Pieces that their owners hold with their names.
 
-ghost use Rattle.std.specs.Prelude.{◌≡◌, ◌≢◌, ◌↔◌, ◌<◌, ◌%◌, length, string_bytes, IsTrue, IfOk, IfErr};
+ghost use Rattle.std.specs.Prelude.{◌≡◌, ◌≢◌, ◌↔◌, ◌<◌, ◌%◌, false, length, string_bytes, IsTrue, IfOk, IfErr, IfSome, IsNone, OnErr};
 ghost use Rattle.std.specs.Int.{is_power_of_two};
 ghost use Rattle.gpu_values.specs.declared.error.AllocationError.TheVariants.{HostOutOfMemory};
+ghost use Rattle.gpu_core.specs.TypeTake.{asked};
 ghost use Rattle.gpu_pool.specs.Allocate.{request_at};
-ghost use Rattle.gpu_pool.specs.Allocation.{piece_of, AllocatesNamed, RenamesNamed, AreDistinct, IsLive, StayLive, IsNewlyLive};
+ghost use Rattle.gpu_pool.specs.Allocation.{piece_of, AllocatesNamed, RenamesNamed, ProposesNamed, IsSecondPlace, AreDistinct, IsLive, StayLive, IsNewlyLive};
 ghost use Rattle.gpu_pool.specs.Free.{Frees};
 ghost use Rattle.gpu_pool.specs.Source.{result_of};
 ghost use Rattle.gpu_pool.specs.declared.allocation.Allocation.{Allocation};
@@ -53,6 +54,40 @@ impl<S: BlockSource> Pool<S> {
         };
         match self.allocate(index, request, extra) {
             Ok(piece) => Ok(allocation_of(index, piece, name)),
+            Err(error) => Err(error),
+        }
+    }
+
+    /// A second place for an allocation, as `propose_move` finds one for its piece, for an owner who holds it with the
+    /// request's name.
+    pub fn propose_move_named(
+        &mut self,
+        alloc: Global,
+        from: &Allocation<S::Handle>,
+        request: &Request,
+    ) -> Result<Option<Allocation<S::Handle>>>
+        requires sized { 0 < request.now.size }
+        requires aligned { IsTrue (is_power_of_two request.now.alignment) }
+        requires piece { request.now.kind ≢ AllocationType.Free }
+        requires shared { request.now.dedicated ≡ false }
+        requires whole { request.now.size ≡ from.now.size }
+        ensures proposes { ProposesNamed S.Handle.eq from.now (asked request.now) self.old result
+            self.new }
+        ensures gives { IfOk result (λ o. IfSome o (λ to. IsSecondPlace S.Handle.eq
+            request.now.alignment self.old.slots from.now to self.new.slots)) }
+        ensures others { self.new ≡ record self.old { slots = self.new.slots } }
+        ensures none { IfOk result (λ o. IsNone o → self.new ≡ self.old) }
+        ensures refused { OnErr result (self.new ≡ self.old) }
+        ensures keeps { StayLive S.Handle.eq self.old.slots self.new.slots }
+    {
+        let own = match own_name(alloc, request.name) {
+            Ok(own) => own,
+            Err(error) => return Err(error),
+        };
+        let index = from.memory_type_index;
+        match self.propose_move(index, &from.piece(), request) {
+            Ok(Some(to)) => Ok(Some(allocation_of(index, to, own))),
+            Ok(None) => Ok(None),
             Err(error) => Err(error),
         }
     }

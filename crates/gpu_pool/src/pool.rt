@@ -1,6 +1,6 @@
 //! A pool: a source of blocks, and the pieces of its blocks.
 
-ghost use Rattle.std.specs.Prelude.{◌≡◌, ◌≢◌, ◌↔◌, ◌⊎◌, ◌<◌, ◌≤◌, ◌%◌, ℕ, [], All, None, length, map, string_bytes, IsTrue, IsOk, IsErr, IfOk, IfErr};
+ghost use Rattle.std.specs.Prelude.{◌≡◌, ◌≢◌, ◌↔◌, ◌⊎◌, ◌+◌, ◌<◌, ◌≤◌, ◌%◌, ℕ, [], All, None, false, length, map, string_bytes, IsTrue, IsOk, IsErr, IfOk, IfErr, OnOk};
 ghost use Rattle.std.specs.Int.{is_power_of_two};
 ghost use Rattle.gpu_values.specs.Refusal.{refusal_in};
 ghost use Rattle.gpu_values.specs.Report.{report_of};
@@ -8,16 +8,19 @@ ghost use Rattle.gpu_values.specs.declared.error.AllocationError.TheVariants.{Ho
 ghost use Rattle.gpu_block_pieces.specs.Leak.{leak_text};
 ghost use Rattle.gpu_core.specs.declared.piece.Piece.{Piece};
 ghost use Rattle.gpu_core.specs.Apart.{IsInside, AreDistinct, KeepsPages};
-ghost use Rattle.gpu_core.specs.Blocks.{total_capacity, EachKeepsOneEmptyAtMost};
+ghost use Rattle.gpu_core.specs.Blocks.{slots_at, total_capacity, EachKeepsOneEmptyAtMost};
 ghost use Rattle.gpu_core.specs.Budgets.{budget_at, budgets, SetsBudget};
 ghost use Rattle.gpu_core.specs.Leaks.{all_leaks};
+ghost use Rattle.gpu_core.specs.Moves.{slots_above, moves_left};
 ghost use Rattle.gpu_core.specs.Reports.{whole_report};
+ghost use Rattle.gpu_core.specs.TypeTake.{asked};
 ghost use Rattle.gpu_core.specs.Types.{slots_of, kinds};
 ghost use Rattle.gpu_pool.specs.Allocate.{request_at, Allocates};
 ghost use Rattle.gpu_pool.specs.Free.{Frees, GivesBackAll};
 ghost use Rattle.gpu_pool.specs.Handles.{all_handles};
 ghost use Rattle.gpu_pool.specs.Held.{HoldsJustBlocks};
 ghost use Rattle.gpu_pool.specs.Live.{IsLive, StayLive, IsNewlyLive, AreBytesApart};
+ghost use Rattle.gpu_pool.specs.Move.{Proposes, GivesPlace};
 ghost use Rattle.gpu_pool.specs.Rename.{Renames};
 ghost use Rattle.gpu_pool.specs.Source.{result_of};
 ghost use Rattle.gpu_pool.specs.State.{State, kind_at, IsSoundAt};
@@ -142,6 +145,71 @@ impl<S: BlockSource> Pool<S> {
     {
         self.requests.blocks_are_sound();
         free_piece(&mut self.source, &mut self.requests, index, piece)
+    }
+
+    /// A second place for a live piece of the memory type at `index`, in a block of a higher slot, for the request that it was
+    /// made for; `None` where the piece isn't live, or no block ahead has a place. The source is asked for nothing, and
+    /// nothing else changes. Both places are live until one of them is freed, by `finish_move` or by `abandon_move`. The only
+    /// refusal is `HostOutOfMemory`.
+    pub fn propose_move(
+        &mut self,
+        index: usize,
+        piece: &Piece<S::Handle>,
+        request: &Request,
+    ) -> Result<Option<Piece<S::Handle>>>
+        requires sized { 0 < request.now.size }
+        requires aligned { IsTrue (is_power_of_two request.now.alignment) }
+        requires piece { request.now.kind ≢ AllocationType.Free }
+        requires shared { request.now.dedicated ≡ false }
+        ensures proposes { Proposes S.Handle.eq index piece.now (asked request.now) self.old
+            (result_of result) self.new }
+        ensures gives { GivesPlace S.Handle.eq index request.now.alignment request.now.size
+            self.old.slots self.new.slots result }
+        ensures keeps { StayLive S.Handle.eq self.old.slots self.new.slots }
+    {
+        self.requests.propose_move(index, piece, request)
+    }
+
+    /// Finishes a move: frees the first place of a piece whose bytes stand at the second one, which stays live. The first
+    /// place's block goes back where it is left empty and isn't the only shared one. It takes no memory.
+    pub fn finish_move(
+        &mut self,
+        index: usize,
+        from: &Piece<S::Handle>,
+        to: &Piece<S::Handle>,
+    ) -> Result<()>
+        requires live { IsLive S.Handle.eq self.old.slots index to.now }
+        requires ahead { from.now.slot < to.now.slot }
+        ensures frees { Frees S.gives_back S.Handle.eq index from.now self.old (result_of result)
+            self.new }
+        ensures constant { S.kinds self.new.source ≡ S.kinds self.old.source }
+        ensures stays { IsLive S.Handle.eq self.new.slots index to.now }
+        ensures keeps { (t : ℕ) (p : Piece S.Handle) → IsLive S.Handle.eq self.old.slots t p
+            → AreDistinct t p index from.now → IsLive S.Handle.eq self.new.slots t p }
+        ensures fewer { OnOk result (moves_left (slots_at self.new.slots index)
+            + slots_above (slots_at self.old.slots index) from.now.slot
+            ≤ moves_left (slots_at self.old.slots index)) }
+    {
+        self.free(index, from)
+    }
+
+    /// Abandons a move: frees the second place of a piece, which stays where it was. It takes no memory.
+    pub fn abandon_move(
+        &mut self,
+        index: usize,
+        from: &Piece<S::Handle>,
+        to: &Piece<S::Handle>,
+    ) -> Result<()>
+        requires live { IsLive S.Handle.eq self.old.slots index from.now }
+        requires ahead { from.now.slot < to.now.slot }
+        ensures frees { Frees S.gives_back S.Handle.eq index to.now self.old (result_of result)
+            self.new }
+        ensures constant { S.kinds self.new.source ≡ S.kinds self.old.source }
+        ensures stays { IsLive S.Handle.eq self.new.slots index from.now }
+        ensures keeps { (t : ℕ) (p : Piece S.Handle) → IsLive S.Handle.eq self.old.slots t p
+            → AreDistinct t p index to.now → IsLive S.Handle.eq self.new.slots t p }
+    {
+        self.free(index, to)
     }
 
     /// Renames a piece of the memory type at `index`. `Internal` where the piece isn't live, else

@@ -1,12 +1,13 @@
 //! Requests: a piece of a shared block at once, or one question for a new block, which is granted or declined.
 
-ghost use Rattle.std.specs.Prelude.{◌≡◌, ◌≢◌, ◌↔◌, ◌<◌, ℕ, None, length, IfOk, IsTrue, IsSome};
+ghost use Rattle.std.specs.Prelude.{◌≡◌, ◌≢◌, ◌↔◌, ◌<◌, ℕ, None, false, length, IfOk, IsTrue, IsSome};
 ghost use Rattle.std.specs.Int.{is_power_of_two};
 ghost use Rattle.std.specs.Option.{option_map};
 ghost use Rattle.gpu_core.specs.declared.piece.Piece.{Piece};
 ghost use Rattle.gpu_core.specs.Apart.{AreDistinct};
 ghost use Rattle.gpu_core.specs.Blocks.{EachKeepsOneEmptyAtMost};
 ghost use Rattle.gpu_core.specs.Budgets.{budgets};
+ghost use Rattle.gpu_core.specs.TypeTake.{asked};
 ghost use Rattle.gpu_core.specs.Types.{slots_of, kinds};
 ghost use Rattle.gpu_pool.specs.Allocate.{request_at};
 ghost use Rattle.gpu_pool.specs.Live.{IsLive, StayLive};
@@ -14,6 +15,7 @@ ghost use Rattle.gpu_pool.specs.State.{IsSoundAt};
 ghost use Rattle.gpu_pool.specs.RequestState.{requests_of};
 ghost use Rattle.gpu_pool.specs.Begin.{question_of, Begins, Grants, Declines, Gives, GivesAwaited};
 ghost use Rattle.gpu_pool.specs.Idle.{FreesIdle, RenamesIdle, SetsBudgetIdle};
+ghost use Rattle.gpu_pool.specs.Move.{ProposesIdle, GivesPlace};
 
 use crate::turn::{answer_awaited, no_answer_awaited};
 use gpu_core::{MemoryTypes, NeedBlock, Piece, Prepared, Request};
@@ -171,6 +173,35 @@ impl<H: Copy + Eq> Requests<H> {
             return Err(answer_awaited());
         }
         self.types.free(index, piece)
+    }
+
+    /// A second place for a live piece of the memory type at `index`, in a block of a higher slot, for the request that it was made
+    /// for; `None` where the piece isn't live, or no block ahead has a place. No block is needed for it. Both places are live
+    /// until one of them is freed. `Internal` while a question is open, else `HostOutOfMemory`; then nothing changes.
+    pub fn propose_move(
+        &mut self,
+        index: usize,
+        piece: &Piece<H>,
+        request: &Request,
+    ) -> Result<Option<Piece<H>>>
+        requires sized { 0 < request.now.size }
+        requires aligned { IsTrue (is_power_of_two request.now.alignment) }
+        requires piece { request.now.kind ≢ AllocationType.Free }
+        // a piece that was to have a block of its own stays in it
+        requires shared { request.now.dedicated ≡ false }
+        ensures proposes { ProposesIdle H.eq index piece.now (asked request.now) self.old result
+            self.new }
+        ensures gives { GivesPlace H.eq index request.now.alignment request.now.size self.old.slots
+            self.new.slots result }
+        ensures keeps { StayLive H.eq self.old.slots self.new.slots }
+    {
+        if self.awaits_answer() {
+            return Err(answer_awaited());
+        }
+        if !self.types.is_live(index, piece) {
+            return Ok(None);
+        }
+        self.types.propose_move(index, piece, request)
     }
 
     /// Renames a piece of the memory type at `index`. `Internal` where the piece isn't live, or a question is open, else

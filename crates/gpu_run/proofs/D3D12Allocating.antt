@@ -32,6 +32,7 @@ allocated_reply : (d : AllocationCreateDesc) (a : Allocation) (reply : answers.R
     → (t : ℕ) × (p : Piece ID3D12Heap) × (reply ≡ answers.Allocated t p) × IsAllocated t d.name.now p a
 allocated_reply d a (answers.Allocated t p) h = (t, p, refl, h)
 allocated_reply d a (answers.Error r) h = absurd h
+allocated_reply d a (answers.SecondPlace t place) h = absurd h
 allocated_reply d a answers.Done h = absurd h
 allocated_reply d a (answers.Budget b) h = absurd h
 allocated_reply d a (answers.Capacity n) h = absurd h
@@ -42,6 +43,7 @@ allocated_reply d a (answers.LeakTexts ts) h = absurd h
 failed_reply : (d : AllocationCreateDesc) (e : AllocationError) (reply : answers.Reply ID3D12Heap) → Replies d (Err e) reply → reply ≡ answers.Error (refusal_of e)
 failed_reply d e (answers.Allocated t p) h = absurd h
 failed_reply d e (answers.Error r) h = ap answers.Error (sym h)
+failed_reply d e (answers.SecondPlace t place) h = absurd h
 failed_reply d e answers.Done h = absurd h
 failed_reply d e (answers.Budget b) h = absurd h
 failed_reply d e (answers.Capacity n) h = absurd h

@@ -1,6 +1,7 @@
 -- The device counts a refusal just where a step met with one; calls of the pool leave what is held beside the blocks, and the records.
 use Rattle.std.proofs.Common.{◌≡◌, ◌∙◌, ℕ, Bool, true, false, List, Option, Some, None, Result, Ok, Err, ap, sym, subst}
 use Rattle.gpu_values.specs.Refusal.{Refusal}
+use Rattle.gpu_block_pieces.specs.Request.{Request}
 use Rattle.gpu_core.specs.declared.piece.Piece.{Piece}
 use Rattle.gpu_device.specs.D3D12.{granted_heap}
 use Rattle.gpu_device.specs.D3D12History.{refused_in}
@@ -11,6 +12,7 @@ use Rattle.gpu_d3d12.specs.declared.describe.AllocationCreateDesc.{AllocationCre
 use Rattle.gpu_d3d12.specs.Setup.{kinds_of_device}
 use Rattle.gpu_pool.specs.Allocate.{RequestAt, Environment, NothingMet, NoHostMemory, Answered, Serves}
 use Rattle.gpu_pool.specs.Free as pools
+use Rattle.gpu_pool.specs.Move.{ProposesBy}
 use Rattle.gpu_pool.specs.Rename.{RenamesBy}
 use Rattle.gpu_pool.specs.Reply.{Reply}
 use Rattle.gpu_pool.specs.State as pools_state
@@ -88,6 +90,15 @@ module _ (basis : Basis) where
   renamed_sees t p name old NoHostMemory (Err e) new h = host_sees old.source new.source (ap (λ s. s.source) h.2)
   renamed_sees t p name old (Answered size answer) result new h = absurd h
 
+  proposed_sees : (t : ℕ) (p : Piece ID3D12Heap) (r : Request) (old : PoolModel) (met : Environment ID3D12Heap) (result : Result (Option (Piece ID3D12Heap)) Refusal) (new : PoolModel)
+      → ProposesBy is_same_heap t p r old met result new → Sees met old.source new.source
+  proposed_sees t p r old NothingMet (Ok (Some to)) new h = quiet_sees old.source new.source (ap (λ s. s.source) h.1)
+  proposed_sees t p r old NothingMet (Ok None) new h = quiet_sees old.source new.source (ap (λ s. s.source) h.1)
+  proposed_sees t p r old NothingMet (Err e) new h = absurd h
+  proposed_sees t p r old NoHostMemory (Ok o) new h = absurd h
+  proposed_sees t p r old NoHostMemory (Err e) new h = host_sees old.source new.source (ap (λ s. s.source) h.1)
+  proposed_sees t p r old (Answered size answer) result new h = absurd h
+
   made_sees : {A : Type 0} (made : A) (met : Environment ID3D12Heap) (answer : Result A Refusal) (old new : PoolModel)
       → Makes made met answer → new ≡ old → Sees met old.source new.source
   made_sees made NothingMet answer old new makes same = quiet_sees old.source new.source (ap (λ s. s.source) same)
@@ -100,6 +111,7 @@ module _ (basis : Basis) where
   pool_sees (calls.Allocate q) met reply old new h = serves_sees q old met h.0 new h.2
   pool_sees (calls.Free t p) met reply old new h = unmet met old.source new.source h.0 (freed_sees t p old h.1 new h.3)
   pool_sees (calls.Rename t p name) met reply old new h = renamed_sees t p name old met h.0 new h.2
+  pool_sees (calls.ProposeMove t p r) met reply old new h = proposed_sees t p r old met h.0 new h.2
   pool_sees (calls.SetBudget t budget) met reply old new h = unmet met old.source new.source h.0 (quiet_sees old.source new.source (ap (λ s. s.source) h.3.state))
   pool_sees (calls.Budget t) met reply old new h = unmet met old.source new.source h.0 (quiet_sees old.source new.source (ap (λ s. s.source) h.2))
   pool_sees calls.Capacity met reply old new h = unmet met old.source new.source h.0 (quiet_sees old.source new.source (ap (λ s. s.source) h.2))

@@ -52,6 +52,7 @@ made_reply_is : (d : ResourceCreateDesc) (r : Resource) (reply : Reply) → Repl
 made_reply_is d r (Made t piece number size) h = record { t = t; piece = piece; number = number; size = size; is = refl; made = h }
 made_reply_is d r (Pool (answers.Allocated t p)) h = absurd h
 made_reply_is d r (Pool (answers.Error e)) h = absurd h
+made_reply_is d r (Pool (answers.SecondPlace t place)) h = absurd h
 made_reply_is d r (Pool answers.Done) h = absurd h
 made_reply_is d r (Pool (answers.Budget b)) h = absurd h
 made_reply_is d r (Pool (answers.Capacity n)) h = absurd h
@@ -64,6 +65,7 @@ failed_reply : (d : ResourceCreateDesc) (e : AllocationError) (reply : Reply) �
 failed_reply d e (Made t piece number size) h = absurd h
 failed_reply d e (Pool (answers.Allocated t p)) h = absurd h
 failed_reply d e (Pool (answers.Error r)) h = ap (λ x. Pool (answers.Error x)) (sym h)
+failed_reply d e (Pool (answers.SecondPlace t place)) h = absurd h
 failed_reply d e (Pool answers.Done) h = absurd h
 failed_reply d e (Pool (answers.Budget b)) h = absurd h
 failed_reply d e (Pool (answers.Capacity n)) h = absurd h

@@ -1,6 +1,7 @@
 -- The device counts a refusal just where a step met with one.
 use Rattle.std.proofs.Common.{◌≡◌, ◌∙◌, ℕ, Bool, true, false, List, Option, Some, None, Result, Ok, Err, refl, ap, sym}
 use Rattle.gpu_values.specs.Refusal.{Refusal}
+use Rattle.gpu_block_pieces.specs.Request.{Request}
 use Rattle.gpu_core.specs.declared.piece.Piece.{Piece}
 use Rattle.gpu_device.specs.MetalHistory.{refused_in}
 use Rattle.gpu_device.specs.declared.metal.event.Event.{Event}
@@ -14,13 +15,17 @@ use Rattle.gpu_metal.specs.Setup.{kinds_of_device}
 use Rattle.gpu_metal.specs.declared.describe.AllocationCreateDesc.{AllocationCreateDesc}
 use Rattle.gpu_pool.specs.Allocate.{RequestAt, Environment, NothingMet, NoHostMemory, Answered, Serves}
 use Rattle.gpu_pool.specs.Free as pools
+use Rattle.gpu_pool.specs.Allocation.{piece_of}
+use Rattle.gpu_pool.specs.Move.{ProposesBy}
 use Rattle.gpu_pool.specs.Reply.{Reply}
 use Rattle.gpu_pool.specs.Step.{Makes}
 use Rattle.gpu_metal.specs.Allocate.{is_valid}
 use Rattle.gpu_metal.specs.Blocks.{is_same_heap}
+use Rattle.gpu_metal.specs.Describe.{request_of}
+use Rattle.gpu_metal.specs.Live.{Allocation}
 use Rattle.gpu_metal.specs.Source.{heap_in}
 use Rattle.gpu_metal.specs.State.{Seen, Model}
-use Rattle.gpu_metal.specs.Step.{Call, Allocate, Free, Commit, SetBudget, Budget, Capacity, LiveHeaps, Report, Step, AllocateStep, SeesQuestion, SeesHeapFreed}
+use Rattle.gpu_metal.specs.Step.{Call, Allocate, Free, ProposeMove, Commit, SetBudget, Budget, Capacity, LiveHeaps, Report, Step, AllocateStep, is_again, MoveStep, SeesQuestion, SeesHeapFreed}
 use Rattle.gpu_run.specs.MetalSession.{refused_after}
 
 -- how many questions the device of a model refused
@@ -84,9 +89,24 @@ made_counts made NothingMet answer old new makes same = stays old new same
 made_counts made NoHostMemory answer old new makes same = stays old new same
 made_counts made (Answered size heap) answer old new makes same = absurd makes
 
+proposed_counts : (t : ℕ) (p : Piece MTLHeap) (r : Request) (old : Model) (met : Environment MTLHeap) (answer : Result (Option (Piece MTLHeap)) Refusal) (new : Model)
+    → ProposesBy is_same_heap t p r old met answer new → refusals new ≡ refused_after met (refusals old)
+proposed_counts t p r old NothingMet (Ok (Some to)) new h = ap refusals h.1
+proposed_counts t p r old NothingMet (Ok None) new h = stays old new h.1
+proposed_counts t p r old NothingMet (Err e) new h = absurd h
+proposed_counts t p r old NoHostMemory (Ok o) new h = absurd h
+proposed_counts t p r old NoHostMemory (Err e) new h = stays old new h.1
+proposed_counts t p r old (Answered size heap) answer new h = absurd h
+
+move_counts : (a : Allocation) (d : AllocationCreateDesc) (again : Bool) (met : Environment MTLHeap) (reply : Reply MTLHeap) (old new : Model)
+    → MoveStep a d again met reply old new → refusals new ≡ refused_after met (refusals old)
+move_counts a d false met reply old new h = unmet met old new h.0 (stays old new h.2)
+move_counts a d true met reply old new h = proposed_counts a.memory_type_index (piece_of a) (request_of d) old met h.0 new h.2
+
 pub step_counts : (call : Call) (met : Environment MTLHeap) (reply : Reply MTLHeap) (old new : Model) → Step call met reply old new → refusals new ≡ refused_after met (refusals old)
 step_counts (Allocate d) met reply old new h = allocate_counts d (is_valid d) met reply old new h
 step_counts (Free a) met reply old new h = unmet met old new h.0 (free_counts _ _ old h.1 new h.3)
+step_counts (ProposeMove a d) met reply old new h = move_counts a d (is_again a d) met reply old new h
 step_counts Commit met reply old new h = unmet met old new h.0 (ap refusals h.1.1 ∙ commit_counts old.source.set old.source.history)
 step_counts (SetBudget t budget) met reply old new h = unmet met old new h.0 (ap refusals h.3.state)
 step_counts (Budget t) met reply old new h = unmet met old new h.0 (stays old new h.2)

@@ -174,6 +174,7 @@ module _ (ours : ℕ → Bool) (written : Written) (setup : Setup) (s t new next
   binds_both key w d e (answers.Error r) y same slots h k b c =
       failed_both key w d e r slots h (subst (λ z. Step setup (model.Allocate e) p.call z t.model next.model) (sym same) k) b
       (subst (λ z. Binds setup key w e z other_reply t.bound next.bound) (sym same) c)
+  binds_both key w d e (answers.SecondPlace u place) y same slots h k b c = absurd b
   binds_both key w d e answers.Done y same slots h k b c = absurd b
   binds_both key w d e (answers.Bytes xs) y same slots h k b c = absurd b
   binds_both key w d e (answers.Capacity n) y same slots h k b c = absurd b
@@ -234,6 +235,7 @@ module _ (ours : ℕ → Bool) (written : Written) (setup : Setup) (s t new next
       let k2 = subst (λ z. BindsNamed key b name z other_reply t.bound next.bound) (sym model_reply) k in
       next_at (Under key (Rename name)) (Error r) (Error r) h.0 k2.0 refl (alike_kept ours written setup s t new next kept kept_new alike h.1 k2.1 slots m n)
   named_both key a b name (answers.Allocated u q) y same found model_reply slots m n h k = absurd h
+  named_both key a b name (answers.SecondPlace u place) y same found model_reply slots m n h k = absurd h
   named_both key a b name (answers.Bytes xs) y same found model_reply slots m n h k = absurd h
   named_both key a b name (answers.Capacity z) y same found model_reply slots m n h k = absurd h
   named_both key a b name (answers.Report r) y same found model_reply slots m n h k = absurd h
@@ -380,6 +382,7 @@ module _ (ours : ℕ → Bool) (written : Written) (setup : Setup) (s t new next
   told_both (answers.Report r) y u v same e f = some_same u v (sym e ∙ ap reply_by same ∙ f)
   told_both (answers.Leaks ts) y u v same e f = some_same u v (sym e ∙ ap reply_by same ∙ f)
   told_both (answers.Allocated i q) y u v same e f = absurd (none_some u e)
+  told_both (answers.SecondPlace i place) y u v same e f = absurd (none_some u e)
   told_both answers.Done y u v same e f = some_same u v (sym e ∙ ap reply_by same ∙ f)
   told_both (answers.Budget b) y u v same e f = absurd (none_some u e)
   told_both (answers.Bytes xs) y u v same e f = absurd (none_some u e)

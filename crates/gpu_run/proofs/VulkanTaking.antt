@@ -34,6 +34,7 @@ allocated_reply : (setup : Setup) (d : AllocationCreateDesc) (a : Allocation) (m
     (model_reply ≡ answers.Allocated t p) × IsAllocated setup t d p a
 allocated_reply setup d a (answers.Allocated t p) h = (t, p, refl, h)
 allocated_reply setup d a (answers.Error r) h = absurd h
+allocated_reply setup d a (answers.SecondPlace t place) h = absurd h
 allocated_reply setup d a answers.Done h = absurd h
 allocated_reply setup d a (answers.Bytes xs) h = absurd h
 allocated_reply setup d a (answers.Capacity n) h = absurd h
@@ -44,6 +45,7 @@ allocated_reply setup d a (answers.Budget b) h = absurd h
 failed_reply : (setup : Setup) (d : AllocationCreateDesc) (e : AllocationError) (model_reply : answers.Reply) → Replies setup d (Err e) model_reply → model_reply ≡ answers.Error (refusal_of e)
 failed_reply setup d e (answers.Allocated t p) h = absurd h
 failed_reply setup d e (answers.Error r) h = ap answers.Error (sym h)
+failed_reply setup d e (answers.SecondPlace t place) h = absurd h
 failed_reply setup d e answers.Done h = absurd h
 failed_reply setup d e (answers.Bytes xs) h = absurd h
 failed_reply setup d e (answers.Capacity n) h = absurd h

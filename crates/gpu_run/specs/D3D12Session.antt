@@ -125,6 +125,7 @@ BindsResource key d _ reply old new = ⊥
 abbrev pub reply_by_pool : answers.Reply ID3D12Heap → Option SessionReply
 reply_by_pool (answers.Allocated t p) = None
 reply_by_pool (answers.Error r) = Some (Error r)
+reply_by_pool (answers.SecondPlace t place) = None
 reply_by_pool answers.Done = Some Done
 reply_by_pool (answers.Budget budget) = None
 reply_by_pool (answers.Capacity n) = Some (replies.Capacity n)

@@ -104,6 +104,7 @@ ServesAt p key (Some a) command o reply old new = ServesBound key a command o re
 abbrev pub reply_by : answers.Reply MTLHeap → Option SessionReply
 reply_by (answers.Allocated t p) = None
 reply_by (answers.Error r) = Some (Error r)
+reply_by (answers.SecondPlace t place) = None
 reply_by answers.Done = Some Done
 reply_by (answers.Budget budget) = None
 reply_by (answers.Capacity n) = Some (replies.Capacity n)

@@ -149,6 +149,7 @@ ServesAt setup key (Some a) command o reply old new = ServesBound setup key a co
 abbrev pub reply_by : answers.Reply → Option SessionReply
 reply_by (answers.Allocated t p) = None
 reply_by (answers.Error r) = Some (Error r)
+reply_by (answers.SecondPlace t place) = None
 reply_by answers.Done = Some Done
 reply_by (answers.Bytes bytes) = None
 reply_by (answers.Capacity n) = Some (replies.Capacity n)

@@ -69,6 +69,7 @@ pub record IsFresh (c : Configured) (s : SessionValue SimD3D12) : Type 0 where
   pub debug : s.allocator.setup.debug ≡ silent
   pub types : length s.allocator.slots ≡ length (memory_kinds s.allocator.setup.tier)
   pub empty_types : All (λ slots. slots ≡ []) s.allocator.slots
+  pub bounds : length s.allocator.budgets ≡ length (memory_kinds s.allocator.setup.tier)
   pub budgets : All (λ budget. budget ≡ None) s.allocator.budgets
   pub lists : length s.allocator.committed ≡ length (memory_kinds s.allocator.setup.tier)
   pub empty_lists : All (λ records. records ≡ []) s.allocator.committed

@@ -56,6 +56,7 @@ pub record IsFresh (c : Configured) (s : SessionValue SimMetal) : Type 0 where
   pub debug : s.allocator.setup.debug ≡ silent
   pub types : length s.allocator.slots ≡ length locations
   pub empty_types : All (λ slots. slots ≡ []) s.allocator.slots
+  pub bounds : length s.allocator.budgets ≡ length locations
   pub budgets : All (λ budget. budget ≡ None) s.allocator.budgets
   pub unbound : s.bound ≡ []
 

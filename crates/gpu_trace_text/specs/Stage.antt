@@ -61,6 +61,7 @@ pub record IsFresh (c : Configured) (s : SessionValue SimVulkan) : Type 0 where
   pub setup : s.allocator.setup ≡ record { properties = properties_by c; sizes = sizes_by c; debug = silent; device_address = false }
   pub types : length s.allocator.slots ≡ length c.types
   pub empty_types : All (λ slots. slots ≡ []) s.allocator.slots
+  pub bounds : length s.allocator.budgets ≡ length c.types
   pub budgets : All (λ budget. budget ≡ None) s.allocator.budgets
   pub first : s.allocator.device ≡ s.allocator.first
   pub plan : plan_of s.allocator.first ≡ plan_by c

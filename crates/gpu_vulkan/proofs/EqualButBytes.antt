@@ -11,7 +11,9 @@ use Rattle.gpu_device.specs.declared.vulkan.types.DeviceMemory.{DeviceMemory}
 use Rattle.gpu_device.specs.declared.vulkan.types.MemoryAllocateInfo.{MemoryAllocateInfo}
 use Rattle.gpu_core.specs.Budgets.{Budgets, budget_at}
 use Rattle.gpu_vulkan.proofs.KeptBudgets.{keeps_budgets}
-use Rattle.gpu_vulkan.proofs.OneStep.{allocates_once, mid_sound, SameBlocks, unchanged, free_alike, rename_alike, rename_rest, set_alike}
+use Rattle.gpu_vulkan.proofs.OneStep.{allocates_once, mid_sound, SameBlocks, unchanged, free_alike, rename_alike, rename_rest, place_alike, set_alike}
+use Rattle.gpu_pool.specs.Move.{ProposesBy}
+use Rattle.gpu_pool.specs.State as pools
 use Rattle.gpu_pool.specs.Step.{Makes}
 use Rattle.gpu_pool.proofs.OneStep.{makes_once}
 use Rattle.gpu_vulkan.specs.Allocate.{Attempts, IsTooLarge, IsWithinHeap, is_valid, is_for_upload, is_short}
@@ -29,14 +31,14 @@ use Rattle.gpu_vulkan.specs.Blocks.{Slots}
 use Rattle.gpu_core.specs.Blocks.{slots_at, total_capacity, BlocksWellFormed}
 use Rattle.gpu_vulkan.specs.Choice.{first_type, required, best_type}
 use Rattle.gpu_vulkan.specs.Describe.{requests_dedicated, kind_of, request_of}
-use Rattle.gpu_vulkan.specs.Live.{piece_of, IsMapped}
+use Rattle.gpu_vulkan.specs.Live.{is_same_memory, piece_of, IsMapped}
 use Rattle.gpu_core.specs.Leaks.{all_leaks}
 use Rattle.gpu_core.specs.Reports.{whole_report}
 use Rattle.gpu_vulkan.specs.Setup.{Setup}
 use Rattle.gpu_vulkan.specs.Reply as replies
-use Rattle.gpu_vulkan.specs.Reply.{Reply, Allocated, Error, Done, Bytes, done_with, report_with, leaks_with}
-use Rattle.gpu_vulkan.specs.Step.{ModelState, Call, Allocate, Free, Write, Rename, Report, Leaks, Read, Capacity, SetBudget, Budget}
-use Rattle.gpu_vulkan.specs.Step.{CallEnvironment, AttemptStep, reply_of, next_by, Follows, ServeStep, RefuseStep, FoundStep, AllocateStep, asked_recorded, went_recorded, FreeStep, host_met, RenameStep, IsRead, Step}
+use Rattle.gpu_vulkan.specs.Reply.{Reply, Allocated, Error, SecondPlace, Done, Bytes, done_with, placed_with, report_with, leaks_with}
+use Rattle.gpu_vulkan.specs.Step.{ModelState, Call, Allocate, Free, Write, Rename, ProposeMove, Report, Leaks, Read, Capacity, SetBudget, Budget}
+use Rattle.gpu_vulkan.specs.Step.{CallEnvironment, AttemptStep, reply_of, next_by, Follows, ServeStep, RefuseStep, FoundStep, AllocateStep, asked_recorded, went_recorded, FreeStep, host_met, pool_in, RenameStep, Place, is_again, Proposes, MoveStep, IsRead, Step}
 use Rattle.gpu_vulkan.specs.declared.allocation.Allocation.{Allocation}
 use Rattle.gpu_vulkan.specs.declared.describe.AllocationCreateDesc.{AllocationCreateDesc}
 
@@ -232,6 +234,16 @@ module _ (setup : Setup) (d e : AllocationCreateDesc) (same : EqualButBytesDescr
   valid_alike : is_valid d ≡ is_valid e
   valid_alike = ap (λ r. is_valid (record d { requirements = r })) same.requirements
 
+-- ---- a second place
+
+again_alike : (w : Allocation) (d e : AllocationCreateDesc) → EqualButBytesDescription d e → is_again w d ≡ is_again w e
+again_alike w d e same = λ i. is_again w (record d { requirements = same.requirements i; allocation_scheme = same.scheme i })
+
+same_proposes : (t : ℕ) (q : Option (Piece DeviceMemory)) (d e : AllocationCreateDesc) → EqualButBytesDescription d e → (host : Bool) (answer : Place) (old new : pools.State (Unit {0}) DeviceMemory)
+    → Proposes t q e host old answer new → Proposes t q d host old answer new
+same_proposes t None d e same host answer old new a = a
+same_proposes t (Some q) d e same host answer old new a = subst (λ r. ProposesBy is_same_memory t q r old (host_met host) answer new) (sym (same_request d e same)) a
+
 -- ---- bytes
 
 read_alike : (setup : Setup) (a : Allocation) (s t : ModelState) (x y : Option (List ℕ)) → s.slots ≡ t.slots → IsRead setup a s x → IsRead setup a t y → EqualButBytesReply (Bytes x) (Bytes y)
@@ -249,6 +261,7 @@ same_alike (Bytes (Some xs)) (Bytes (Some ys)) e = tt
 same_alike (Bytes (Some xs)) (Bytes None) e = e
 same_alike (Bytes (Some xs)) (Allocated t p) e = e
 same_alike (Bytes (Some xs)) (Error r) e = e
+same_alike (Bytes (Some xs)) (SecondPlace t p) e = e
 same_alike (Bytes (Some xs)) Done e = e
 same_alike (Bytes (Some xs)) (replies.Capacity n) e = e
 same_alike (Bytes (Some xs)) (replies.Report r) e = e
@@ -257,6 +270,7 @@ same_alike (Bytes (Some xs)) (replies.Budget n) e = e
 same_alike (Bytes None) y e = e
 same_alike (Allocated t p) y e = e
 same_alike (Error r) y e = e
+same_alike (SecondPlace t p) y e = e
 same_alike Done y e = e
 same_alike (replies.Capacity n) y e = e
 same_alike (replies.Report r) y e = e
@@ -302,6 +316,21 @@ module _ (setup : Setup) (o p : CallEnvironment) (x y : Reply) (old new twin nex
       makes_once (of old.slots) (host_met o.first.host) u v a
       (subst (λ h. Makes (of old.slots) (host_met h) v) (sym host) (subst (λ (ss : Slots). Makes (of ss) (host_met p.first.host) v) (sym slots) b))
 
+  -- a second place
+  moved : (w : Allocation) (d e : AllocationCreateDesc) → EqualButBytesDescription d e → (again : Bool) → MoveStep setup w d again o x old new → MoveStep setup w e again p y twin next → Alike
+  moved w d e same false a b = let both = unchanged_both a.same b.same in (same_alike x y (a.reply_is ∙ sym b.reply_is), both.0, both.1)
+  moved w d e same true a b =
+      let t = w.memory_type_index in
+      let hosts = subst (λ h. Proposes t (piece_of w) e h (pool_in setup twin) b.1 (pool_in setup next)) (sym met.first.host) b.3.proposes in
+      let other = same_proposes t (piece_of w) d e same o.first.host b.1 (pool_in setup twin) (pool_in setup next) hosts in
+      let once = place_alike setup old new twin next sound (slots, budgets) t (piece_of w) d o.first.host a.1 b.1 a.3.proposes other in
+      (same_alike x y (a.2 ∙ ap (placed_with t) once.0 ∙ sym b.2), once.1, λ h. a.3.recorded ∙ h ∙ sym b.3.recorded)
+
+  proposed : (w v : Allocation) (d e : AllocationCreateDesc) → w ≡ v → EqualButBytesDescription d e → Step setup (ProposeMove w d) o x old new → Step setup (ProposeMove v e) p y twin next → Alike
+  proposed w v d e one same a b =
+      moved w d e same (is_again w d) a
+      (subst (λ z. MoveStep setup w e z p y twin next) (sym (again_alike w d e same)) (subst (λ u. MoveStep setup u e (is_again u e) p y twin next) (sym one) b))
+
   -- the same call
   same_call : (call : Call) → Step setup call o x old new → Step setup call p y twin next → Alike
   same_call (Allocate d) a b = allocated d d (record { requirements = refl; location = refl; linear = refl; scheme = refl; name = refl }) a b
@@ -318,6 +347,7 @@ module _ (setup : Setup) (o p : CallEnvironment) (x y : Reply) (old new twin nex
       let here = rename_rest setup t (piece_of f) name o.first.host a.1 old new a.3 in
       let there = rename_rest setup t (piece_of f) name o.first.host b.1 twin next other in
       (same_alike x y (a.2 ∙ ap done_with once.0 ∙ sym b.2), once.1, λ h. here.history ∙ h ∙ sym there.history)
+  same_call (ProposeMove w d) a b = proposed w w d d refl (record { requirements = refl; location = refl; linear = refl; scheme = refl; name = refl }) a b
   same_call (Read r) a b =
       let both = unchanged_both a.4 b.4 in
       (bytes_alike x y a.1 b.1 a.2 b.2 (read_alike setup r old twin a.1 b.1 slots a.3 b.3), both.0, both.1)
@@ -347,6 +377,7 @@ module _ (setup : Setup) (o p : CallEnvironment) (x y : Reply) (old new twin nex
   step_alike (Write w ws) (Write v vs) same a b = written w v ws vs a b
   step_alike (Allocate d) (Free f) same a b = to_same (Allocate d) (Free f) same a b
   step_alike (Allocate d) (Rename f name) same a b = to_same (Allocate d) (Rename f name) same a b
+  step_alike (Allocate d) (ProposeMove w e) same a b = to_same (Allocate d) (ProposeMove w e) same a b
   step_alike (Allocate d) (Write w ws) same a b = to_same (Allocate d) (Write w ws) same a b
   step_alike (Allocate d) (Read r) same a b = to_same (Allocate d) (Read r) same a b
   step_alike (Allocate d) Capacity same a b = to_same (Allocate d) Capacity same a b
@@ -357,12 +388,24 @@ module _ (setup : Setup) (o p : CallEnvironment) (x y : Reply) (old new twin nex
   step_alike (Write w ws) (Allocate d) same a b = to_same (Write w ws) (Allocate d) same a b
   step_alike (Write w ws) (Free f) same a b = to_same (Write w ws) (Free f) same a b
   step_alike (Write w ws) (Rename f name) same a b = to_same (Write w ws) (Rename f name) same a b
+  step_alike (Write w ws) (ProposeMove v d) same a b = to_same (Write w ws) (ProposeMove v d) same a b
   step_alike (Write w ws) (Read r) same a b = to_same (Write w ws) (Read r) same a b
   step_alike (Write w ws) Capacity same a b = to_same (Write w ws) Capacity same a b
   step_alike (Write w ws) Report same a b = to_same (Write w ws) Report same a b
   step_alike (Write w ws) Leaks same a b = to_same (Write w ws) Leaks same a b
   step_alike (Write w ws) (SetBudget t budget) same a b = to_same (Write w ws) (SetBudget t budget) same a b
   step_alike (Write w ws) (Budget t) same a b = to_same (Write w ws) (Budget t) same a b
+  step_alike (ProposeMove w d) (ProposeMove v e) same a b = proposed w v d e same.0 same.1 a b
+  step_alike (ProposeMove w d) (Allocate e) same a b = to_same (ProposeMove w d) (Allocate e) same a b
+  step_alike (ProposeMove w d) (Free f) same a b = to_same (ProposeMove w d) (Free f) same a b
+  step_alike (ProposeMove w d) (Rename f name) same a b = to_same (ProposeMove w d) (Rename f name) same a b
+  step_alike (ProposeMove w d) (Write v ws) same a b = to_same (ProposeMove w d) (Write v ws) same a b
+  step_alike (ProposeMove w d) (Read r) same a b = to_same (ProposeMove w d) (Read r) same a b
+  step_alike (ProposeMove w d) Capacity same a b = to_same (ProposeMove w d) Capacity same a b
+  step_alike (ProposeMove w d) Report same a b = to_same (ProposeMove w d) Report same a b
+  step_alike (ProposeMove w d) Leaks same a b = to_same (ProposeMove w d) Leaks same a b
+  step_alike (ProposeMove w d) (SetBudget t budget) same a b = to_same (ProposeMove w d) (SetBudget t budget) same a b
+  step_alike (ProposeMove w d) (Budget t) same a b = to_same (ProposeMove w d) (Budget t) same a b
   step_alike (Free f) other same a b = to_same (Free f) other same a b
   step_alike (Rename f name) other same a b = to_same (Rename f name) other same a b
   step_alike (Read r) other same a b = to_same (Read r) other same a b

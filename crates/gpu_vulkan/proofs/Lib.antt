@@ -22,3 +22,5 @@ pub mod Naming
 pub mod Named
 pub mod EqualButBytes
 pub mod Untouched
+pub mod Moving
+pub mod Reading

@@ -49,8 +49,9 @@ distinct_pieces : (a b : Allocation) (n m : NonZeroU64) → a.chunk_id ≡ Some 
 distinct_pieces a b n m is also other types slots numbers = other types slots (ap number_in is ∙ numbers ∙ sym (ap number_in also))
 
 -- what an allocation that stands for a piece has of it
-record Has (a : Allocation) (p : Piece DeviceMemory) : Type 0 where
+pub record Has (a : Allocation) (p : Piece DeviceMemory) : Type 0 where
   pub slot : a.memory_block_index ≡ p.slot
+  pub size : a.size ≡ p.size
   pub chunk_id : number_in a.chunk_id ≡ non_zero_u64_get p.chunk_id
   pub offset : a.offset ≡ p.offset
 
@@ -60,11 +61,12 @@ has_by a (Some n) is p e =
     let same : piece_under a n ≡ p = some_same (piece_under a n) p e in
     record {
       slot = ap (λ (z : Piece DeviceMemory). z.slot) same;
+      size = ap (λ (z : Piece DeviceMemory). z.size) same;
       chunk_id = ap number_in is ∙ ap (λ (z : Piece DeviceMemory). non_zero_u64_get z.chunk_id) same;
       offset = ap (λ (z : Piece DeviceMemory). z.offset) same;
     }
 
-has : (a : Allocation) (p : Piece DeviceMemory) → piece_of a ≡ Some p → Has a p
+pub has : (a : Allocation) (p : Piece DeviceMemory) → piece_of a ≡ Some p → Has a p
 has a p e = has_by a a.chunk_id refl p e
 
 -- an allocation begins where its piece does

@@ -20,20 +20,22 @@ use Rattle.gpu_pool.specs.State as states
 use Rattle.gpu_pool.specs.State.{kind_at, IsSoundAt}
 use Rattle.gpu_pool.specs.Step.{AskDecides, GiveBackDecides, SetsBudgetOf}
 use Rattle.gpu_pool.specs.Free.{Frees}
+use Rattle.gpu_pool.specs.Move.{ProposesBy}
 use Rattle.gpu_pool.specs.Rename.{RenamesBy}
-use Rattle.gpu_pool.proofs.OneStep.{serves_once, frees_once, renames_once, sets_once, makes_once}
+use Rattle.gpu_pool.proofs.OneStep.{serves_once, frees_once, renames_once, proposes_once, sets_once, makes_once}
 use Rattle.gpu_vulkan.specs.Attempt.{Allocates}
 use Rattle.gpu_vulkan.specs.BlockAnswer.{BlockAnswer, Declined, Granted, Mapped, NotMapped}
 use Rattle.gpu_vulkan.specs.Source.{IsResult}
 use Rattle.gpu_vulkan.specs.Blocks.{Slots}
+use Rattle.gpu_vulkan.specs.Describe.{request_of}
 use Rattle.gpu_core.specs.Blocks.{slots_at, BlocksWellFormed}
 use Rattle.gpu_vulkan.specs.ByteView.{AllocationId, is_same_id, ByteView, IsOutOf, SplitsRest, JoinsRest, AddsBlock, Writes}
 use Rattle.gpu_vulkan.specs.Live.{is_same_memory}
 use Rattle.gpu_vulkan.specs.Live.{piece_of}
 use Rattle.gpu_vulkan.specs.Setup.{Setup}
-use Rattle.gpu_vulkan.specs.Reply.{Reply, Bytes, done_with, report_with, leaks_with}
-use Rattle.gpu_vulkan.specs.Step.{ModelState, Call, Allocate, Free, Write, Rename, Report, Leaks, Read, Capacity, SetBudget, Budget}
-use Rattle.gpu_vulkan.specs.Step.{CallEnvironment, BytesAfter, AttemptStep, reply_of, next_by, Follows, ServeStep, RefuseStep, FoundStep, AllocateStep, pool_in, MayDrop, FreedStep, FreeStep, host_met, KeepsTheRest, went_recorded, RenameStep, IsRead, Step, id_in, id_of}
+use Rattle.gpu_vulkan.specs.Reply.{Reply, Bytes, done_with, placed_with, report_with, leaks_with}
+use Rattle.gpu_vulkan.specs.Step.{ModelState, Call, Allocate, Free, Write, Rename, ProposeMove, Report, Leaks, Read, Capacity, SetBudget, Budget}
+use Rattle.gpu_vulkan.specs.Step.{CallEnvironment, BytesAfter, AttemptStep, reply_of, next_by, Follows, ServeStep, RefuseStep, FoundStep, AllocateStep, pool_in, MayDrop, FreedStep, FreeStep, host_met, KeepsTheRest, went_recorded, RenameStep, Place, is_again, Proposes, BytesPlaced, MoveStep, IsRead, Step, id_in, id_of}
 use Rattle.gpu_vulkan.specs.declared.allocation.Allocation.{Allocation}
 use Rattle.gpu_vulkan.specs.declared.describe.AllocationCreateDesc.{AllocationCreateDesc}
 use Rattle.gpu_vulkan.proofs.Attempts.{refused_same}
@@ -291,6 +293,14 @@ module _ (setup : Setup) (old new twin next : ModelState) (sound : BlocksWellFor
       (subst (λ (s : Pool). RenamesBy is_same_memory t p name s (host_met host) y (pool next)) start b.0) in
       (once.0, ends once.1)
 
+  pub place_alike : (t : ℕ) (p : Option (Piece DeviceMemory)) (d : AllocationCreateDesc) (host : Bool) (x y : Place) → Proposes t p d host (pool old) x (pool new) → Proposes t p d host (pool twin) y (pool next)
+      → (x ≡ y) × SameBlocks new next
+  place_alike t None d host x y a b = (a.1 ∙ sym b.1, ends (a.2 ∙ sym start ∙ sym b.2))
+  place_alike t (Some p) d host x y a b =
+      let once = proposes_once (kinds_for t) is_same_memory t p (request_of d) (pool old) (sound_for t) (host_met host) x y (pool new) (pool next) a
+      (subst (λ (s : Pool). ProposesBy is_same_memory t p (request_of d) s (host_met host) y (pool next)) start b) in
+      (once.0, ends once.1)
+
   pub set_alike : (t : ℕ) (budget : Option ℕ) (x y : Result (Unit {0}) Refusal) → SetsBudgetOf t budget (pool old) x (pool new) → SetsBudgetOf t budget (pool twin) y (pool next)
       → (x ≡ y) × SameBlocks new next
   set_alike t budget x y a b =
@@ -350,6 +360,23 @@ read_once setup a s None (Some ys) h k = absurd (h k.0)
 read_once setup a s (Some xs) None h k = absurd (k h.0)
 read_once setup a s (Some xs) (Some ys) h k = sym h.1 ∙ k.1
 
+placed_once : (mapped : Bool) (t : ℕ) (answer : Place) (old new next : ByteView) → BytesPlaced mapped t answer old new → BytesPlaced mapped t answer old next → new ≡ next
+placed_once mapped t (Ok (Some p)) old new next a b = takes_out_once mapped (id_in t p) p.offset p.size old new next a b
+placed_once mapped t (Ok None) old new next a b = a ∙ sym b
+placed_once mapped t (Err r) old new next a b = a ∙ sym b
+
+move_once : (setup : Setup) (w : Allocation) (d : AllocationCreateDesc) (again : Bool) (o : CallEnvironment) (x y : Reply) (old new next : ModelState) → BlocksWellFormed setup.properties.granularity old.slots
+    → MoveStep setup w d again o x old new → MoveStep setup w d again o y old next → (x ≡ y) × (new ≡ next)
+move_once setup w d false o x y old new next sound a b = refuse_once _ o x y old new next a b
+move_once setup w d true o x y old new next sound a b =
+    let t = w.memory_type_index in
+    let mapped = is_mapped setup.properties t in
+    let once = place_alike setup old new old next sound (refl, refl) t (piece_of w) d o.first.host a.1 b.1 a.3.proposes b.3.proposes in
+    let other : BytesPlaced mapped t a.1 old.byte_view next.byte_view = subst (λ z. BytesPlaced mapped t z old.byte_view next.byte_view) (sym once.0) b.3.bytes in (
+      a.2 ∙ ap (placed_with t) once.0 ∙ sym b.2,
+      states_alike new next once.1.0 once.1.1 (placed_once mapped t a.1 old.byte_view new.byte_view next.byte_view a.3.bytes other) (a.3.recorded ∙ sym b.3.recorded),
+    )
+
 -- ---- any call
 
 pub step_once : (setup : Setup) (call : Call) (o : CallEnvironment) (x y : Reply) (old new next : ModelState) → BlocksWellFormed setup.properties.granularity old.slots
@@ -368,6 +395,7 @@ step_once setup (Rename f name) o x y old new next sound a b =
     let once = rename_alike setup old new old next sound (refl, refl) t p name host a.1 b.1 a.3 b.3 in
     let rest = kept_both old new next (rename_rest setup t p name host a.1 old new a.3) (rename_rest setup t p name host b.1 old next b.3) in
     (a.2 ∙ ap done_with once.0 ∙ sym b.2, states_alike new next once.1.0 once.1.1 rest.byte_view rest.history)
+step_once setup (ProposeMove w d) o x y old new next sound a b = move_once setup w d (is_again w d) o x y old new next sound a b
 step_once setup (Write w ws) o x y old new next sound a b =
     let p = a.2 in
     let q = b.2 in (

@@ -81,7 +81,7 @@ module _ {D : Type 0} (g : Ghosts D) (setup : Setup) (budgets : Budgets) (d : Al
   mapped = is_mapped setup.properties t
 
   -- a shared block serves
-  served_bytes : (p : Piece DeviceMemory) (taken : List (Option (Slot DeviceMemory))) (r : _) (held : Held) → PreparesPiece (slots_at old t) r p taken
+  pub served_bytes : (p : Piece DeviceMemory) (taken : List (Option (Slot DeviceMemory))) (r : _) (held : Held) → PreparesPiece (slots_at old t) r p taken
       → BlocksWellFormed setup.properties.granularity (slice_set old t taken) → HoldsJustLiveBlocks setup.properties first held (slice_set old t taken) → ((n : ℕ) → IsWhole (get held n))
       → SplitsRest mapped (id_in t p) p.offset p.size (byte_view_of held old) (byte_view_of held (slice_set old t taken))
   served_bytes p taken r held s after holds whole =

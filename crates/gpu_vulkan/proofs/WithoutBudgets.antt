@@ -4,21 +4,22 @@ use Rattle.std.specs.Prelude.{if◌then◌else◌, ◌&&◌, not}
 use Rattle.gpu_values.specs.Refusal.{Refusal}
 use Rattle.gpu_core.specs.declared.piece.Piece.{Piece}
 use Rattle.gpu_device.specs.declared.vulkan.types.DeviceMemory.{DeviceMemory}
-use Rattle.gpu_pool.proofs.WithoutBudgets.{serves_plain}
+use Rattle.gpu_pool.proofs.WithoutBudgets.{serves_plain, proposes_plain}
 use Rattle.gpu_core.specs.Budgets.{Budgets, budget_at}
 use Rattle.gpu_vulkan.specs.Blocks.{Slots}
 use Rattle.gpu_vulkan.specs.Attempt.{AttemptEnvironment, Answer, request_in, unseen, AnyQuestion}
 use Rattle.gpu_vulkan.specs.Choice.{required, first_type, best_type}
+use Rattle.gpu_vulkan.specs.Describe.{request_of}
 use Rattle.gpu_vulkan.specs.Setup.{Setup}
 use Rattle.gpu_vulkan.specs.Types.{kinds_of_device}
 use Rattle.gpu_vulkan.specs.declared.describe.AllocationCreateDesc.{AllocationCreateDesc}
 use Rattle.gpu_vulkan.specs.declared.allocation.Allocation.{Allocation}
 use Rattle.gpu_vulkan.specs.Allocate.{Attempts, IsTooLarge, IsWithinHeap, is_valid, is_for_upload, is_short}
 use Rattle.gpu_vulkan.specs.Budgets.{MayAsk, MeetsNoBudget, without_budgets}
-use Rattle.gpu_vulkan.specs.Live.{piece_of}
+use Rattle.gpu_vulkan.specs.Live.{is_same_memory, piece_of}
 use Rattle.gpu_vulkan.specs.Reply.{Reply}
-use Rattle.gpu_vulkan.specs.Step.{ModelState, Call, Allocate, Free, Write, Rename, Report, Leaks, Read, Capacity, SetBudget, Budget, CallEnvironment}
-use Rattle.gpu_vulkan.specs.Step.{Step, AttemptStep, AllocateStep, FoundStep, Follows, FreeStep, KeepsTheRest, RenameStep, IsRead, next_by}
+use Rattle.gpu_vulkan.specs.Step.{ModelState, Call, Allocate, Free, Write, Rename, ProposeMove, Report, Leaks, Read, Capacity, SetBudget, Budget, CallEnvironment}
+use Rattle.gpu_vulkan.specs.Step.{Step, AttemptStep, AllocateStep, FoundStep, Follows, FreeStep, host_met, pool_in, KeepsTheRest, RenameStep, Place, is_again, Proposes, MoveStep, IsRead, next_by}
 use Rattle.gpu_pool.specs.State as pools
 use Rattle.gpu_core.proofs.Options.{none_some}
 
@@ -101,6 +102,21 @@ rename_plain setup t (Some p) name true (Err r) old new a = ((record { dead = a.
 rename_plain setup t (Some p) name false (Ok u) old new a = absurd a.0
 rename_plain setup t (Some p) name false (Err r) old new a = ((a.0.0, a.0.1, ap pools.without_budgets a.0.2), kept_plain old new a.1)
 
+place_plain : (setup : Setup) (t : ℕ) (p : Option (Piece DeviceMemory)) (d : AllocationCreateDesc) (host : Bool) (answer : Place) (old new : ModelState)
+    → Proposes t p d host (pool_in setup old) answer (pool_in setup new) → Proposes t p d host (pool_in setup (without_budgets old)) answer (pool_in setup (without_budgets new))
+place_plain setup t None d host answer old new a = (a.0, a.1, ap pools.without_budgets a.2)
+place_plain setup t (Some p) d host answer old new a = proposes_plain is_same_memory t p (request_of d) (pool_in setup old) (host_met host) answer (pool_in setup new) a
+
+move_plain : (setup : Setup) (w : Allocation) (d : AllocationCreateDesc) (again : Bool) (o : CallEnvironment) (x : Reply) (old new : ModelState) → MoveStep setup w d again o x old new
+    → MoveStep setup w d again o x (without_budgets old) (without_budgets new)
+move_plain setup w d false o x old new a = record { met = a.met; reply_is = a.reply_is; same = ap without_budgets a.same }
+move_plain setup w d true o x old new a = (
+  a.0,
+  a.1,
+  a.2,
+  record { proposes = place_plain setup w.memory_type_index (piece_of w) d o.first.host a.1 old new a.3.proposes; bytes = a.3.bytes; recorded = a.3.recorded },
+)
+
 read_plain : (setup : Setup) (r : Allocation) (bytes : Option (List ℕ)) (s : ModelState) → IsRead setup r s bytes → IsRead setup r (without_budgets s) bytes
 read_plain setup r None s is = is
 read_plain setup r (Some xs) s is = is
@@ -110,6 +126,7 @@ pub step_plain : (setup : Setup) (call : Call) (o : CallEnvironment) (x : Reply)
 step_plain setup (Allocate d) o x old new none a = allocate_plain setup d (is_valid d) o x old new none a
 step_plain setup (Free f) o x old new none a = (a.0, a.1, a.2, free_plain setup f.memory_type_index (piece_of f) a.1 old new a.3)
 step_plain setup (Rename f name) o x old new none a = (a.0, a.1, a.2, rename_plain setup f.memory_type_index (piece_of f) name o.first.host a.1 old new a.3)
+step_plain setup (ProposeMove w d) o x old new none a = move_plain setup w d (is_again w d) o x old new a
 step_plain setup (Write w ws) o x old new none a = (a.0, a.1, record { live = a.2.live; slots = a.2.slots; budgets = refl; history = a.2.history; writes = a.2.writes })
 step_plain setup (Read r) o x old new none a = (a.0, a.1, a.2, read_plain setup r a.1 old a.3, ap without_budgets a.4)
 step_plain setup Capacity o x old new none a = (a.0, a.1, ap without_budgets a.2)

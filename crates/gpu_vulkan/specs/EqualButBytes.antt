@@ -3,7 +3,7 @@ use Rattle.std.specs.Prelude.{◌≡◌, Option, Some, None}
 use Rattle.gpu_vulkan.specs.Attempt.{AttemptEnvironment, Asked}
 use Rattle.gpu_vulkan.specs.BlockAnswer.{BlockAnswer, Mapped}
 use Rattle.gpu_vulkan.specs.Reply.{Reply, Bytes}
-use Rattle.gpu_vulkan.specs.Step.{Call, Allocate, Write, CallEnvironment}
+use Rattle.gpu_vulkan.specs.Step.{Call, Allocate, ProposeMove, Write, CallEnvironment}
 use Rattle.gpu_vulkan.specs.declared.describe.AllocationCreateDesc.{AllocationCreateDesc}
 
 -- the same answer, but for the bytes that a newly mapped block holds
@@ -37,6 +37,7 @@ pub record EqualButBytesDescription (d e : AllocationCreateDesc) : Type 0 where
 -- the same call, but for the bytes of a write
 abbrev pub EqualButBytesCall : Call → Call → Type 0
 EqualButBytesCall (Allocate d) (Allocate e) = EqualButBytesDescription d e
+EqualButBytesCall (ProposeMove a d) (ProposeMove b e) = (a ≡ b) × EqualButBytesDescription d e
 EqualButBytesCall (Write a bytes) (Write b others) = a ≡ b
 EqualButBytesCall call other = call ≡ other
 

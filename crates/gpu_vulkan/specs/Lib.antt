@@ -21,3 +21,5 @@ pub mod Apart
 pub mod Rename
 pub mod EqualButBytes
 pub mod Untouched
+pub mod Move
+pub mod Carry

@@ -9,6 +9,8 @@ pub data Reply : Type 0 where
   -- a piece of the t-th memory type
   Allocated : (t : ℕ) (piece : Piece DeviceMemory) → Reply
   Error : (refusal : Refusal) → Reply
+  -- a second place for a piece of the t-th memory type, None where it stays
+  SecondPlace : (t : ℕ) (place : Option (Piece DeviceMemory)) → Reply
   Done : Reply
   -- an allocation's bytes, None where it has none
   Bytes : (bytes : Option (List ℕ)) → Reply
@@ -22,6 +24,11 @@ pub data Reply : Type 0 where
 abbrev pub done_with : Result (Unit {0}) Refusal → Reply
 done_with (Ok _) = Done
 done_with (Err r) = Error r
+
+-- a second place, that there is none, or why neither
+abbrev pub placed_with : (t : ℕ) → Result (Option (Piece DeviceMemory)) Refusal → Reply
+placed_with t (Ok place) = SecondPlace t place
+placed_with t (Err r) = Error r
 
 -- a report, or why there is none
 abbrev pub report_with : Result reports.Report Refusal → Reply

@@ -1,5 +1,5 @@
 -- An allocator as a model: what each call returns and leaves of its blocks, budgets and bytes, by what it met with.
-use Rattle.std.specs.Prelude.{◌≡◌, ℕ, Vec, String, Bool, true, false, List, map, string_bytes, Option, Some, None, Result, Ok, Err}
+use Rattle.std.specs.Prelude.{◌≡◌, ℕ, ◌==◌, ◌&&◌, not, Vec, String, Bool, true, false, List, map, string_bytes, Option, Some, None, Result, Ok, Err}
 use Rattle.std.specs.Global.{Global}
 use Rattle.std.specs.Int.NonZero.{non_zero_u64_get}
 use Rattle.gpu_values.specs.Refusal.{Refusal, refusal_of, no_compatible_memory_type_found, invalid_allocation_create_desc}
@@ -20,6 +20,7 @@ use Rattle.gpu_vulkan.specs.Blocks.{Slots}
 use Rattle.gpu_core.specs.Blocks.{total_capacity}
 use Rattle.gpu_vulkan.specs.ByteView.{AllocationId, ByteView, byte_view_of, SplitsRest, JoinsRest, AddsBlock, DropsBlock, Writes}
 use Rattle.gpu_vulkan.specs.Choice.{best_type}
+use Rattle.gpu_vulkan.specs.Describe.{requests_dedicated, request_of}
 use Rattle.gpu_vulkan.specs.Lends.{number_in}
 use Rattle.gpu_vulkan.specs.Live.{is_same_memory, IsLiveIn}
 use Rattle.gpu_vulkan.specs.Live.{piece_of, IsAllocated, IsMapped}
@@ -32,13 +33,14 @@ use Rattle.gpu_vulkan.specs.declared.allocation.Allocation.{Allocation}
 use Rattle.gpu_vulkan.specs.declared.describe.AllocationCreateDesc.{AllocationCreateDesc}
 use Rattle.gpu_pool.specs.Allocate.{Environment, NothingMet, NoHostMemory}
 use Rattle.gpu_pool.specs.Free.{FreesPiece}
+use Rattle.gpu_pool.specs.Move.{ProposesBy}
 use Rattle.gpu_pool.specs.Rename.{RenamesBy}
 use Rattle.gpu_pool.specs.State as pools
 use Rattle.gpu_pool.specs.Step.{Makes, SetsBudgetOf}
 use Rattle.gpu_core.specs.Release.{IsReleaseRefusal}
 use Rattle.gpu_values.specs.Report as reports
 use Rattle.gpu_vulkan.specs.Reply as replies
-use Rattle.gpu_vulkan.specs.Reply.{Reply, Allocated, Error, Done, Bytes, done_with, report_with, leaks_with}
+use Rattle.gpu_vulkan.specs.Reply.{Reply, Allocated, Error, SecondPlace, Done, Bytes, done_with, placed_with, report_with, leaks_with}
 
 -- the blocks with their pieces, the budgets of memory types, the bytes, and all that the device was asked and given back, newest first
 pub record ModelState : Type 0 where
@@ -54,6 +56,7 @@ pub data Call : Type 0 where
   Allocate : (d : AllocationCreateDesc) → Call
   Free : (a : Allocation) → Call
   Rename : (a : Allocation) (name : List ℕ) → Call
+  ProposeMove : (a : Allocation) (d : AllocationCreateDesc) → Call
   Write : (a : Allocation) (bytes : List ℕ) → Call
   Read : (a : Allocation) → Call
   Capacity : Call
@@ -191,6 +194,39 @@ RenameStep setup t None name host answer old new = Makes tt (host_met host) answ
 RenameStep setup t (Some p) name host answer old new =
     RenamesBy is_same_memory t p name (pool_in setup old) (host_met host) answer (pool_in setup new) × KeepsTheRest old new
 
+-- ---- a second place
+
+-- what is answered: a second place, None where there is none, or why neither
+abbrev pub Place : Type 0
+Place = Result (Option (Piece DeviceMemory)) Refusal
+
+-- the request again: valid, of the allocation's size, and for a block that it may share
+abbrev pub is_again : Allocation → AllocationCreateDesc → Bool
+is_again a d = is_valid d && ((d.requirements.size == a.size) && not (requests_dedicated d.allocation_scheme))
+
+-- a second place for a piece of the t-th memory type, as a pool proposes one; a null allocation has none
+abbrev pub Proposes : {S : Type 0} → (t : ℕ) → Option (Piece DeviceMemory) → AllocationCreateDesc → (host : Bool) → pools.State S DeviceMemory → Place → pools.State S DeviceMemory → Type 0
+Proposes t None d host old answer new = (host ≡ true) × (answer ≡ Ok None) × (new ≡ old)
+Proposes t (Some p) d host old answer new = ProposesBy is_same_memory t p (request_of d) old (host_met host) answer new
+
+-- what a second place leaves of the bytes: its list comes out of the rest
+abbrev pub BytesPlaced : (mapped : Bool) → (t : ℕ) → Place → ByteView → ByteView → Type 0
+BytesPlaced mapped t (Ok (Some p)) old new = SplitsRest mapped (id_in t p) p.offset p.size old new
+BytesPlaced mapped t (Ok None) old new = new ≡ old
+BytesPlaced mapped t (Err r) old new = new ≡ old
+
+-- a second place is looked for; the device is asked nothing and given nothing back
+pub record PlaceStep (setup : Setup) (t : ℕ) (p : Option (Piece DeviceMemory)) (d : AllocationCreateDesc) (host : Bool) (answer : Place) (old new : ModelState) : Type 0 where
+  pub proposes : Proposes t p d host (pool_in setup old) answer (pool_in setup new)
+  pub bytes : BytesPlaced (is_mapped setup.properties t) t answer old.byte_view new.byte_view
+  pub recorded : new.history ≡ old.history
+
+-- a second place for the request again
+abbrev pub MoveStep : Setup → Allocation → AllocationCreateDesc → (again : Bool) → CallEnvironment → Reply → ModelState → ModelState → Type 0
+MoveStep setup a d false o reply old new = RefuseStep invalid_allocation_create_desc o reply old new
+MoveStep setup a d true o reply old new =
+    AsksNothing o × (answer : Place) × (reply ≡ placed_with a.memory_type_index answer) × PlaceStep setup a.memory_type_index (piece_of a) d o.first.host answer old new
+
 -- ---- bytes
 
 abbrev pub id_of : Allocation → AllocationId
@@ -216,6 +252,7 @@ Step setup (Allocate d) o reply old new = AllocateStep setup d (is_valid d) o re
 Step setup (Free a) o reply old new = MeetsNothing o × (answer : Result (Unit {0}) Refusal) × (reply ≡ done_with answer) × FreeStep setup a.memory_type_index (piece_of a) answer old new
 Step setup (Rename a name) o reply old new =
     AsksNothing o × (answer : Result (Unit {0}) Refusal) × (reply ≡ done_with answer) × RenameStep setup a.memory_type_index (piece_of a) name o.first.host answer old new
+Step setup (ProposeMove a d) o reply old new = MoveStep setup a d (is_again a d) o reply old new
 Step setup (Write a bytes) o reply old new = MeetsNothing o × (reply ≡ Done) × WriteStep setup a bytes old new
 Step setup (Read a) o reply old new = MeetsNothing o × (bytes : Option (List ℕ)) × (reply ≡ Bytes bytes) × IsRead setup a old bytes × (new ≡ old)
 Step setup Capacity o reply old new = MeetsNothing o × (reply ≡ replies.Capacity (total_capacity old.slots)) × (new ≡ old)
@@ -255,6 +292,18 @@ pub record IsAllocateStep {D : Type 0} (g : Ghosts D) (d : AllocationCreateDesc)
   pub reply : Reply
   pub step : IsStep g (Allocate d) reply old new
   pub replies : Replies old.setup d result reply
+
+-- the same of a second place's caller
+abbrev pub RepliesPlace : Setup → AllocationCreateDesc → Result (Option Allocation) AllocationError → Reply → Type 0
+RepliesPlace setup d (Ok (Some a)) (SecondPlace t (Some p)) = IsAllocated setup t d p a
+RepliesPlace setup d (Ok None) (SecondPlace t None) = Unit {0}
+RepliesPlace setup d (Err e) (Error r) = refusal_of e ≡ r
+RepliesPlace setup d _ _ = ⊥
+
+pub record IsMoveStep {D : Type 0} (g : Ghosts D) (a : Allocation) (d : AllocationCreateDesc) (result : Result (Option Allocation) AllocationError) (old new : State D) : Type 0 where
+  pub reply : Reply
+  pub step : IsStep g (ProposeMove a d) reply old new
+  pub replies : RepliesPlace old.setup d result reply
 
 abbrev pub freed_as : Result (Unit {0}) (AllocationError × Allocation) → Reply
 freed_as (Ok _) = Done

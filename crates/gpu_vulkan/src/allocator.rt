@@ -1,6 +1,6 @@
 //! The allocator: blocks of device memory by memory type, and the calls that share them out.
 
-ghost use Rattle.std.specs.Prelude.{◌≡◌, ◌↔◌, [], All, map, Some, None, IfOk, IfErr, OnOk, IsSome, IfSome, OnSome, IsTrue, List, ℕ, length, option_copied, ◌%◌, ◌<◌};
+ghost use Rattle.std.specs.Prelude.{◌≡◌, ◌↔◌, [], All, map, Some, None, IfOk, IfErr, OnOk, OnErr, IsSome, IsNone, IfSome, OnSome, IsTrue, List, ℕ, length, option_copied, ◌%◌, ◌<◌};
 ghost use Rattle.std.specs.Option.{unwrap_or};
 ghost use Rattle.gpu_values.specs.Refusal.{refusal_of, host_out_of_memory};
 ghost use Rattle.gpu_vulkan.specs.Setup.{setup_fault};
@@ -16,7 +16,8 @@ ghost use Rattle.gpu_vulkan.specs.Lends.{AreDistinct};
 ghost use Rattle.gpu_vulkan.specs.declared.allocation.Allocation.{Allocation};
 ghost use Rattle.gpu_vulkan.specs.Reply as replies;
 ghost use Rattle.gpu_vulkan.specs.Reply.{Done, Bytes};
-ghost use Rattle.gpu_vulkan.specs.Step.{IsStep, IsAllocateStep, Free, Rename, Write, Read, Capacity, Report, Leaks, SetBudget, Budget, freed_as, reply_of_done, reply_of_report, reply_of_leaks};
+ghost use Rattle.gpu_vulkan.specs.Step.{IsStep, IsAllocateStep, IsMoveStep, Free, Rename, Write, Read, Capacity, Report, Leaks, SetBudget, Budget, freed_as, reply_of_done, reply_of_report, reply_of_leaks};
+ghost use Rattle.gpu_vulkan.specs.Move.{IsSecondPlace};
 ghost use Rattle.gpu_vulkan.specs.Rename.{Renames, StayLive};
 ghost use Rattle.gpu_core.specs.Budgets.{budget_at, budgets};
 ghost use Rattle.gpu_core.specs.Types.{slots_of, kinds};
@@ -29,6 +30,7 @@ use super::logging::{log_allocate, log_device, log_free, log_last_leaks, log_lea
 use super::rename::rename;
 use super::{Allocation, MappedAllocationSlab};
 use crate::attempt::{allocate_in_type, blocks_are_held, next_type};
+use crate::moves::{is_again, second_place};
 use crate::source::VulkanBlocks;
 use crate::{
     AllocationCreateDesc, AllocatorCreateDesc, Settings, Setup, best_type, fault_of, parts_of,
@@ -117,6 +119,11 @@ impl<D: VulkanDevice> Allocator<D> {
         }
     }
 
+    /// Where its memory of the host comes from.
+    pub(crate) fn alloc(&self) -> Global {
+        self.alloc
+    }
+
     /// What it is made with, lent; the sizes of blocks are the pool's.
     fn setup(&self) -> &Setup
         ensures { result.now.properties ≡ self.now.setup.properties }
@@ -169,6 +176,39 @@ impl<D: VulkanDevice> Allocator<D> {
                 blocks_are_held(&self.pool);
                 result
             }
+        }
+    }
+
+    /// A second place for a live allocation, in a block that is there and in a higher slot, for the request that it was made for:
+    /// where a new allocation of it would lie now, if that is higher. `None` where it isn't live, or no such block has a place.
+    /// The device is asked for nothing, and no byte changes. Both are live until one of them is freed: the first once what lies
+    /// there is copied, or the second, which gives the move up. Its memory type bits and location aren't looked at.
+    /// `InvalidAllocationCreateDesc` where the request isn't valid, of another size, or for a buffer or an image alone, else
+    /// `HostOutOfMemory`; then nothing changes.
+    pub fn propose_move(
+        &mut self,
+        allocation: &Allocation,
+        desc: &AllocationCreateDesc,
+    ) -> Result<Option<Allocation>>
+        // what it is refused for, which place it finds or that there is none, and that nothing else changes
+        ensures step { IsMoveStep D.VulkanDevice allocation.now desc.now result self.old self.new }
+        ensures gives { IfOk result (λ o. IfSome o
+            (λ to. IsSecondPlace desc.now.requirements.alignment self.old.slots allocation.now to
+            self.new.slots)) }
+        ensures none { IfOk result (λ o. IsNone o → self.new ≡ self.old) }
+        ensures refused { OnErr result (self.new ≡ self.old) }
+        ensures others { self.new ≡ record self.old { slots = self.new.slots } }
+        ensures keeps { StayLive self.old.slots self.new.slots }
+        ensures reads { (b : Allocation) → IsLive self.old.slots b
+            → bytes_at (D.held self.new.device) b ≡ bytes_at (D.held self.old.device) b }
+    {
+        if is_again(allocation, desc) {
+            blocks_are_held(&self.pool);
+            let result = second_place(self.alloc, &mut self.pool, allocation, desc);
+            blocks_are_held(&self.pool);
+            result
+        } else {
+            Err(AllocationError::InvalidAllocationCreateDesc)
         }
     }
 

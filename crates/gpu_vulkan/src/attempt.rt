@@ -24,7 +24,7 @@ use gpu_values::{AllocationError, MemoryLocation, Result};
 use std::alloc::{AllocError, Global};
 
 /// The allocation of a piece of the memory type at `index`.
-fn allocation_of(
+pub fn allocation_of(
     setup: &Setup,
     desc: &AllocationCreateDesc,
     index: usize,

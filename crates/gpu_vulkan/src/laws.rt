@@ -47,8 +47,8 @@ pub fn unasked_budgets_decide_nothing()
         → Step setup call met reply (without_budgets old) (without_budgets new) }
 {}
 
-/// No allocation and no free changes a byte of memory that is held before and after. (A new name, a report, a list of leaks and a
-/// read leave the device as it was; a write is told by `slice_mut`.)
+/// No allocation and no free changes a byte of memory that is held before and after. (A second place, a new name, a report, a list
+/// of leaks and a read leave the device as it was; a write is told by `slice_mut`.)
 pub fn memory_is_left<D: VulkanDevice>()
     ensures allocate { (setup : Setup) (budgets : Budgets) (d : AllocationCreateDesc)
         (old new : Slots) (device after : D) (result : Result Allocation AllocationError)

@@ -4,6 +4,7 @@
 mod bytes;
 mod counting;
 mod log_lines;
+mod moves;
 mod refused;
 mod reports;
 mod rows;

@@ -17,9 +17,11 @@ ghost use Rattle.gpu_d3d12.specs.MemoryKinds.{memory_kinds};
 ghost use Rattle.gpu_d3d12.specs.Setup.{kinds_of_device};
 ghost use Rattle.gpu_pool.specs.Idle.{FreesIdle, RenamesIdle, SetsBudgetIdle};
 ghost use Rattle.gpu_pool.specs.Live.{IsLive, StayLive};
+ghost use Rattle.gpu_pool.specs.Move.{GivesPlace};
 ghost use Rattle.gpu_pool.specs.Told.{Reports};
 ghost use Rattle.gpu_machine.specs.D3D12Begin.{IsQuestion, Begins, Grants, Refuses, BeginsCommitted};
 ghost use Rattle.gpu_machine.specs.D3D12Live.{Gives, GivesAwaited};
+ghost use Rattle.gpu_machine.specs.D3D12Move.{Proposes};
 
 use crate::d3d12::answer::{Allocated, Progress, Question};
 use gpu_core::{AllLeaks, MemoryTypes, Piece};
@@ -192,6 +194,31 @@ impl Machine {
             → IsLive is_same_heap self.new.requests.slots t p }
     {
         self.requests.free(index, piece)
+    }
+
+    /// A second place for a live piece of the memory type at `index`, in a block that is there and in a higher slot, for the request that it
+    /// was made for: where a new piece would lie now, if that is higher. `None` where the piece isn't live, or no such block has a
+    /// place. No block is asked for. Both places are live until one of them is freed: the first once what lies there is copied,
+    /// or the second, which gives the move up. Its location and category aren't looked at. `Internal` while a question is open, else
+    /// `InvalidAllocationCreateDesc` where the request isn't valid or of another size, else `HostOutOfMemory`; then nothing changes.
+    pub fn propose_move(
+        &mut self,
+        index: usize,
+        piece: &Piece<ID3D12Heap>,
+        desc: &AllocationCreateDesc,
+    ) -> Result<Option<Piece<ID3D12Heap>>>
+        ensures proposes { Proposes index piece.now desc.now self.old result self.new }
+        ensures gives { GivesPlace is_same_heap index desc.now.alignment desc.now.size
+            self.old.requests.slots self.new.requests.slots result }
+        ensures keeps { StayLive is_same_heap self.old.requests.slots self.new.requests.slots }
+    {
+        if self.awaits_answer() {
+            return Err(answer_awaited());
+        }
+        if desc.size == 0 || !desc.alignment.is_power_of_two() || desc.size != piece.size {
+            return Err(AllocationError::InvalidAllocationCreateDesc);
+        }
+        self.requests.propose_move(index, piece, &request_of(desc))
     }
 
     /// Renames a piece of the memory type at `index`. `Internal` where the piece isn't live, or a question is open; else

@@ -14,10 +14,12 @@ ghost use Rattle.gpu_metal.specs.MemoryKinds.{locations};
 ghost use Rattle.gpu_metal.specs.Setup.{kinds_of_device};
 ghost use Rattle.gpu_pool.specs.Idle.{RenamesIdle, SetsBudgetIdle};
 ghost use Rattle.gpu_pool.specs.Live.{IsLive, StayLive};
+ghost use Rattle.gpu_pool.specs.Move.{GivesPlace};
 ghost use Rattle.gpu_pool.specs.Told.{Reports};
 ghost use Rattle.gpu_machine.specs.MetalBegin.{IsQuestion, Begins, Grants, Refuses};
 ghost use Rattle.gpu_machine.specs.MetalCalls.{heap_back, block_heap, Frees};
 ghost use Rattle.gpu_machine.specs.MetalLive.{Gives, GivesAwaited};
+ghost use Rattle.gpu_machine.specs.MetalMove.{Proposes};
 
 use crate::metal::answer::{Allocated, Granted, HeapBack, Progress, Question};
 use gpu_core::{AllLeaks, MemoryTypes, Piece};
@@ -119,7 +121,7 @@ impl Machine {
         ensures keeps { StayLive is_same_heap self.old.requests.slots self.new.requests.slots }
     {
         if self.awaits_answer() {
-            return Err(answer_awaited());
+            return Err(answer_awaited()); // one question at a time
         }
         if desc.size == 0 || !desc.alignment.is_power_of_two() {
             return Err(AllocationError::InvalidAllocationCreateDesc);
@@ -180,6 +182,31 @@ impl Machine {
             Err(error) => Err(error),
             Ok(went) => Ok(heap_back(self.has_set, went)),
         }
+    }
+
+    /// A second place for a live piece of the memory type at `index`, in a block that is there and in a higher slot, for the request that it
+    /// was made for: where a new piece would lie now, if that is higher. `None` where the piece isn't live, or no such block has a
+    /// place. No block is asked for. Both places are live until one of them is freed: the first once what lies there is copied,
+    /// or the second, which gives the move up. Its location isn't looked at. `Internal` while a question is open, else
+    /// `InvalidAllocationCreateDesc` where the request isn't valid or of another size, else `HostOutOfMemory`; then nothing changes.
+    pub fn propose_move(
+        &mut self,
+        index: usize,
+        piece: &Piece<MTLHeap>,
+        desc: &AllocationCreateDesc,
+    ) -> Result<Option<Piece<MTLHeap>>>
+        ensures proposes { Proposes index piece.now desc.now self.old result self.new }
+        ensures gives { GivesPlace is_same_heap index desc.now.alignment desc.now.size
+            self.old.requests.slots self.new.requests.slots result }
+        ensures keeps { StayLive is_same_heap self.old.requests.slots self.new.requests.slots }
+    {
+        if self.awaits_answer() {
+            return Err(answer_awaited());
+        }
+        if desc.size == 0 || !desc.alignment.is_power_of_two() || desc.size != piece.size {
+            return Err(AllocationError::InvalidAllocationCreateDesc);
+        }
+        self.requests.propose_move(index, piece, &request_of(desc))
     }
 
     /// Renames a piece of the memory type at `index`. `Internal` where the piece isn't live, or a question is open; else

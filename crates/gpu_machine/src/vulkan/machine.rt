@@ -13,6 +13,7 @@ ghost use Rattle.gpu_core.specs.TypeState.{slot_at};
 ghost use Rattle.gpu_core.specs.Types.{slots_of, kinds};
 ghost use Rattle.gpu_pool.specs.Idle.{RenamesIdle, SetsBudgetIdle};
 ghost use Rattle.gpu_pool.specs.Live.{IsLive, StayLive};
+ghost use Rattle.gpu_pool.specs.Move.{GivesPlace};
 ghost use Rattle.gpu_pool.specs.Told.{Reports};
 ghost use Rattle.gpu_vulkan.specs.Allocate.{next_type};
 ghost use Rattle.gpu_vulkan.specs.BlockAnswer.{memory_refusal, map_refusal};
@@ -23,6 +24,7 @@ ghost use Rattle.gpu_machine.specs.VulkanState.{IsOver, told_fault};
 ghost use Rattle.gpu_machine.specs.VulkanBegin.{Tries, Follows, MakesAttempts, Begins, Grants, Declines};
 ghost use Rattle.gpu_machine.specs.VulkanCalls.{memory_back, live_block, block_at, Frees};
 ghost use Rattle.gpu_machine.specs.VulkanLive.{Gives, GivesAgain, GivesAwaited};
+ghost use Rattle.gpu_machine.specs.VulkanMove.{Proposes};
 
 use crate::vulkan::answer::{Allocated, LiveBlock, MemoryBack, Progress, Question};
 use crate::vulkan::asking::Asking;
@@ -179,9 +181,9 @@ impl<H: Copy + Eq> Machine<H> {
         ensures keeps { StayLive H.eq self.old.requests.slots self.new.requests.slots }
     {
         if self.awaits_answer() {
-            return Err(answer_awaited());
+            return Err(answer_awaited()); // one question at a time
         }
-        if desc.requirements.size == 0 || !desc.requirements.alignment.is_power_of_two() {
+        if desc.requirements.size == 0 || !desc.requirements.alignment.is_power_of_two() { // before a memory type is looked for
             return Err(AllocationError::InvalidAllocationCreateDesc);
         }
         let bits = desc.requirements.memory_type_bits;
@@ -246,6 +248,36 @@ impl<H: Copy + Eq> Machine<H> {
             Err(error) => Err(error),
             Ok(went) => Ok(memory_back(&self.setup, index, went)),
         }
+    }
+
+    /// A second place for a live piece of the memory type at `index`, in a block that is there and in a higher slot, for the request that it
+    /// was made for: where a new piece would lie now, if that is higher. `None` where the piece isn't live, or no such block has a
+    /// place. No block is asked for. Both places are live until one of them is freed: the first once what lies there is copied,
+    /// or the second, which gives the move up. Its memory type bits and location aren't looked at. `Internal` while a question is
+    /// open, else `InvalidAllocationCreateDesc` where the request isn't valid, of another size, or for a buffer or an image alone, else
+    /// `HostOutOfMemory`; then nothing changes.
+    pub fn propose_move(
+        &mut self,
+        index: usize,
+        piece: &Piece<H>,
+        desc: &AllocationCreateDesc,
+    ) -> Result<Option<Piece<H>>>
+        ensures proposes { Proposes H.eq index piece.now desc.now self.old result self.new }
+        ensures gives { GivesPlace H.eq index desc.now.requirements.alignment desc.now.requirements.size
+            self.old.requests.slots self.new.requests.slots result }
+        ensures keeps { StayLive H.eq self.old.requests.slots self.new.requests.slots }
+    {
+        if self.awaits_answer() {
+            return Err(answer_awaited());
+        }
+        if desc.requirements.size == 0 || !desc.requirements.alignment.is_power_of_two() {
+            return Err(AllocationError::InvalidAllocationCreateDesc);
+        }
+        let request = request_of(desc);
+        if desc.requirements.size != piece.size || request.dedicated {
+            return Err(AllocationError::InvalidAllocationCreateDesc);
+        }
+        self.requests.propose_move(index, piece, &request)
     }
 
     /// Renames a piece of the memory type at `index`. `Internal` where the piece isn't live, or a question is open; else

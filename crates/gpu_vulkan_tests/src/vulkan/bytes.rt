@@ -5,7 +5,7 @@ use super::*;
 use gpu_values::AllocatorReport;
 
 /// Writes over the whole of an allocation: whether it could.
-fn write(a: &mut Allocator<SimVulkan>, x: &Allocation, bytes: &[u8]) -> bool {
+pub(super) fn write(a: &mut Allocator<SimVulkan>, x: &Allocation, bytes: &[u8]) -> bool {
     match a.mapped_slice_mut(x) {
         Some(slice) => {
             if slice.len() != bytes.len() {
@@ -19,7 +19,7 @@ fn write(a: &mut Allocator<SimVulkan>, x: &Allocation, bytes: &[u8]) -> bool {
 }
 
 /// Whether the allocation reads as these bytes.
-fn reads(a: &Allocator<SimVulkan>, x: &Allocation, bytes: &[u8]) -> bool {
+pub(super) fn reads(a: &Allocator<SimVulkan>, x: &Allocation, bytes: &[u8]) -> bool {
     match a.mapped_slice(x) {
         Some(slice) => slice == bytes,
         None => false,

@@ -38,7 +38,7 @@ fn held(a: &Allocator<SimVulkan>) -> (u64, usize) {
 }
 
 /// Allocates a piece; where the host refused memory nothing has changed, and it is asked for once more.
-fn take_again(
+pub(super) fn take_again(
     a: &mut Allocator<SimVulkan>,
     desc: &AllocationCreateDesc,
     refused: &mut u64,
@@ -174,7 +174,7 @@ fn look(a: &mut Allocator<SimVulkan>, x: &Allocation) -> bool {
 }
 
 /// How a test ends in which so many calls were refused, if all else held.
-fn ends(refused: u64, held: bool) -> std::result::Result<(), Fail> {
+pub(super) fn ends(refused: u64, held: bool) -> std::result::Result<(), Fail> {
     match (refused, held) {
         (0, true) => Ok(()),
         (1, true) => Err(Fail::new(TOLD)),
@@ -184,7 +184,7 @@ fn ends(refused: u64, held: bool) -> std::result::Result<(), Fail> {
 }
 
 /// A piece for downloads: uploads are asked for again where the device lacks host memory.
-fn named_download(name: &str, size: u64, alignment: u64) -> AllocationCreateDesc<'_> {
+pub(super) fn named_download(name: &str, size: u64, alignment: u64) -> AllocationCreateDesc<'_> {
     AllocationCreateDesc {
         name,
         ..managed(size, alignment, MemoryLocation::GpuToCpu)

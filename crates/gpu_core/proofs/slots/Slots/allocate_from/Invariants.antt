@@ -2,7 +2,7 @@ use Rattle.std.proofs.Common.{ℕ, ◌≡◌, ◌≤◌, length, vec_capacity}
 use Rattle.gpu_core.specs.TypeState.{slot_at}
 use Rattle.gpu_core.specs.TypeTake.{asked, CannotServe}
 use Rattle.gpu_core.specs.Slots.{slots_of}
-use Rattle.gpu_core.proofs.slots.Slots.allocate.Given as goal
+use Rattle.gpu_core.proofs.slots.Slots.allocate_from.Given as goal
 
 abbrev pub invariant-loop-below : goal.invariant-loop-below
 invariant-loop-below g l = record {

@@ -21,8 +21,8 @@ use Rattle.gpu_core.specs.Slots.{slot_of, slots_of, SlotIsSound, AreSound, AreBo
 use Rattle.gpu_core.proofs.Bounded.{others_kept}
 use Rattle.gpu_core.proofs.Passing.{none_behind, none_passed}
 use Rattle.gpu_core.proofs.Slotted.{Edits, edits, none_from, prepares, edited_sound}
-use Rattle.gpu_core.proofs.slots.Slots.allocate.Goals as goal
-use Rattle.gpu_core.proofs.slots.Slots.allocate.Goals.{In-FreeList, In-Err, After-index_mut, After-pass_over-arg-in-loop-below-1, After-allocate, in-Some+in-FreeList+in-Err-OutOfMemory, in-Some+in_default-sub, in_default}
+use Rattle.gpu_core.proofs.slots.Slots.allocate_from.Goals as goal
+use Rattle.gpu_core.proofs.slots.Slots.allocate_from.Goals.{In-FreeList, In-Err, After-index_mut, After-pass_over-arg-in-loop-below-1, After-allocate, in-Some+in-FreeList+in-Err-OutOfMemory, in-Some+in_default-sub, in_default}
 
 -- the slot that is looked at is what it was at first
 here : (g : _) (c : After-index_mut g) → slot_at (slots_of c.self.inside.blocks.items) (c.loop-below.below - 1) ≡ option_map slot_of c.index_mut.result.now
@@ -133,7 +133,7 @@ loop-below-preserved g c =
       longest = lengths;
       above = none_passed c.self.inside.longest.lengths slots r c.pass_over-below-in-loop-below.result (c.loop-below.below - 1) c.self.invariant
           (subst (λ l. (i : ℕ) → c.pass_over-below-in-loop-below.result ≤ i → i < c.loop-below.below - 1 → slice_index l.lengths i < r.size) lengths over.passed)
-          (none_from slots r c.loop-below.below c.loop-below-test.true c.loop-below.invariant.above none);
+          (none_from slots r c.loop-below.below (omega (arith, c.loop-below-test.true)) c.loop-below.invariant.above none);
     }
 
 -- the slots with the free list after the call
@@ -162,11 +162,13 @@ returns-in-Ok-clause-took g c =
     let i = c.loop-below.below - 1 in
     let new = after_call g f.After-allocate in
     let after = slots_of (slice_set c.loop-below.self-inside.blocks.items i new) in
-    let p : Piece g.row.H.Denot = record { slot = i; chunk_id = c.in-Ok.chunk_id; offset = c.in-Ok.offset; size = c.args.request.now.size; handle = c.in-Some.field-0.handle } in
-    subst (λ t. PreparesPiece t.slots (asked c.args.request.now) p after) c.self.view_is
-    (prepares (slots_of c.self.inside.blocks.items) (asked c.args.request.now) p (Some (record { handle = c.in-Some.field-0.handle; block = free_list c.in-FreeList.list.block }))
-    (option_map slot_of new) after (here g f.After-index_mut ∙ ap (option_map slot_of) (free_list_here g f.In-FreeList)) (refl, refl, refl, c.in-Ok.ensures.took) refl
-    (λ j lt. c.loop-below.invariant.above j (omega (arith, lt))) ((call_edits g f.After-allocate).slots ∙ ap (λ s. slice_set s i (option_map slot_of new)) c.loop-below.invariant.same))
+    let p : Piece g.row.H.Denot = record { slot = i; chunk_id = c.in-Ok.chunk_id; offset = c.in-Ok.offset; size = c.args.request.now.size; handle = c.in-Some.field-0.handle } in (
+      subst (λ t. PreparesPiece t.slots (asked c.args.request.now) p after) c.self.view_is
+          (prepares (slots_of c.self.inside.blocks.items) (asked c.args.request.now) p (Some (record { handle = c.in-Some.field-0.handle; block = free_list c.in-FreeList.list.block }))
+          (option_map slot_of new) after (here g f.After-index_mut ∙ ap (option_map slot_of) (free_list_here g f.In-FreeList)) (refl, refl, refl, c.in-Ok.ensures.took) refl
+          (λ j lt. c.loop-below.invariant.above j (omega (arith, lt))) ((call_edits g f.After-allocate).slots ∙ ap (λ s. slice_set s i (option_map slot_of new)) c.loop-below.invariant.same)),
+      omega (arith, c.loop-below-test.true),
+    )
 
 -- the slots are sound before the call
 sound_slots : (g : _) (c : After-index_mut g) → AreSound c.args.granularity (slots_of c.loop-below.self-inside.blocks.items)
