@@ -9,7 +9,7 @@ use Rattle.gpu_report.specs.Timeline.{timeline_svg}
 use Rattle.gpu_picture.specs.Follow.{IsStart, Follows}
 use Rattle.gpu_picture.specs.WholeTrace.{DrawsTrace}
 use Rattle.gpu_picture.specs.declared.follow.Followed.{Followed}
-use Rattle.gpu_picture.specs.declared.whole_trace.Drawn.TheVariants.{Whole, Bad}
+use Rattle.gpu_picture.specs.declared.drawn.Drawn.TheVariants.{Whole, Bad}
 use Rattle.gpu_picture.specs.declared.whole_trace.Wanted.TheVariants.{OverTime}
 
 -- what is replayed of the known bytes, from before the first line on

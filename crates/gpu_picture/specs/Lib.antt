@@ -1,3 +1,5 @@
 pub mod Draw
+pub mod Drawable
+pub mod DrawPlan
 pub mod Follow
 pub mod WholeTrace

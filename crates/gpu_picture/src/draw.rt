@@ -1,9 +1,10 @@
 //! What is written of the blocks that a trace leaves.
 
-ghost use Rattle.std.specs.Prelude.{◌≡◌, map, IfOk, IfErr, OnOk};
+ghost use Rattle.std.specs.Prelude.{◌≡◌, [], map, IfOk, IfErr, OnOk};
 ghost use Rattle.std.specs.Io.KnownBytes.{Appends};
 ghost use Rattle.gpu_values.specs.declared.error.AllocationError.TheVariants.{HostOutOfMemory};
 ghost use Rattle.gpu_report.specs.View.{shown};
+ghost use Rattle.gpu_report.specs.BlocksSvg.{blocks_svg};
 ghost use Rattle.gpu_picture.specs.Draw.{drawing, shown_types, DrawsBlock, DrawsTypes, DrawsVulkan, DrawsMetal, DrawsD3D12, Draws};
 
 use gpu_core::MemoryTypes;
@@ -37,6 +38,14 @@ fn write_views<W: Write>(form: Form, views: &[BlockView<'_>], writer: &mut W) ->
         }
     }
     writer.flush()
+}
+
+/// Writes the picture of no blocks.
+pub fn draw_nothing<W: Write>(writer: &mut W) -> io::Result<()>
+    ensures { OnOk result (Appends (W.contents writer.old) (W.contents writer.new)
+        (blocks_svg [])) }
+{
+    write_views(Form::Svg, &[], writer)
 }
 
 /// Writes the block of a block trace, or none where it made none.

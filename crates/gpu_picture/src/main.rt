@@ -3,24 +3,27 @@
 #![tactic(auto)]
 
 mod draw;
+mod draw_plan;
+mod drawable;
+mod drawn;
 mod follow;
 mod whole_trace;
 
-use draw::Form;
+use drawn::Drawn;
 use log::sink::Discard;
 use std::io::BufWriter;
 use std::process::ExitCode;
 use std::{env, io};
-use whole_trace::{DrawError, Drawn, Wanted, draw_trace};
+use whole_trace::{DrawError, Wanted, draw_trace};
 
-/// What is asked for: a picture of the blocks, JSON of them by the one argument `json`, a picture of what was held over time by
+/// What is asked for: a picture of the blocks or the plan, JSON of the blocks by the one argument `json`, a picture of what was held over time by
 /// `over-time`; `None` of other arguments.
 fn asked_for(rt: &HostRuntime) -> io::Result<Option<Wanted>> {
     let mut arguments = env::args(rt)?;
     let _program = arguments.next();
     let wanted = match arguments.next() {
-        None => Some(Wanted::Blocks(Form::Svg)),
-        Some(word) if word.as_str() == "json" => Some(Wanted::Blocks(Form::Json)),
+        None => Some(Wanted::Picture),
+        Some(word) if word.as_str() == "json" => Some(Wanted::Json),
         Some(word) if word.as_str() == "over-time" => Some(Wanted::OverTime),
         Some(_) => None,
     };
@@ -46,6 +49,10 @@ fn status(rt: &HostRuntime, drawn: Result<Drawn, DrawError>) -> ExitCode {
         Ok(Drawn::Bad(number)) => {
             let _ = eprintln!(rt; "gpu_picture: bad line {number}");
             ExitCode::from(2)
+        }
+        Ok(Drawn::TooLarge) => {
+            let _ = eprintln!(rt; "gpu_picture: no heap of 64 bits holds the plan's resources");
+            ExitCode::from(1)
         }
         Err(DrawError::Trace(error)) => {
             let _ = eprintln!(rt; "gpu_picture: {error}");

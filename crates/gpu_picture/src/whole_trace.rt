@@ -1,10 +1,13 @@
 //! A whole trace, from its bytes to what is written of it.
 
-ghost use Rattle.std.specs.Prelude.{IfOk, IfSome};
-ghost use Rattle.gpu_picture.specs.WholeTrace.{DrawsTrace};
-ghost use Rattle.gpu_picture.specs.declared.whole_trace.Wanted.TheVariants.{Blocks, OverTime as Times};
+ghost use Rattle.std.specs.Prelude.{IfOk, IfErr, IfSome};
+ghost use Rattle.gpu_picture.specs.WholeTrace.{DrawsLeft, DrawsTrace, LeavesWritten};
+ghost use Rattle.gpu_picture.specs.declared.whole_trace.Wanted.TheVariants.{Picture, Json, OverTime as Times};
 
-use crate::draw::{Form, draw};
+use crate::draw::{Form, draw, draw_nothing};
+use crate::draw_plan::draw_plan;
+use crate::drawable::{Drawable, replay_drawable};
+use crate::drawn::Drawn;
 use crate::follow::{draw_over_time, follow_trace};
 use gpu_trace_text::{Replayed, Trace, TraceError, replay_trace};
 use log::Log;
@@ -15,19 +18,12 @@ use std::io::{Read, Write};
 /// What is to be written.
 #[derive(Clone, Copy)]
 pub enum Wanted {
-    /// The blocks that the trace leaves.
-    Blocks(Form),
+    /// What the trace leaves, as a picture: its plan or its blocks.
+    Picture,
+    /// The blocks that the trace leaves, as JSON.
+    Json,
     /// What memory types held after one command after another.
     OverTime,
-}
-
-/// What came of a trace that was read.
-#[derive(Drop)]
-pub enum Drawn {
-    /// Each line was served, and what is wanted is written.
-    Whole,
-    /// The line of that number, counted from 1, is the first bad one; nothing is written.
-    Bad(u64),
 }
 
 /// Why nothing, or only a part, is written.
@@ -39,24 +35,62 @@ pub enum DrawError {
     Write(io::Error),
 }
 
-/// Reads a trace and writes the blocks that it leaves.
-fn draw_blocks<R: Read, W: Write, L: Log>(
+/// Writes what a trace leaves as a picture: its plan or its blocks.
+fn draw_left<W: Write>(alloc: Global, left: &Drawable, writer: &mut W) -> io::Result<Drawn>
+    ensures { IfOk result (λ drawn. DrawsLeft left.now drawn (W.contents writer.old)
+        (W.contents writer.new)) }
+{
+    match left {
+        Drawable::Plan(stage) => return draw_plan(alloc, stage, writer),
+        Drawable::Any(trace) => draw(alloc, Form::Svg, trace, writer)?,
+        Drawable::Before => draw_nothing(writer)?,
+    }
+    Ok(Drawn::Whole)
+}
+
+/// Reads a trace and writes what it leaves as a picture.
+fn draw_picture<R: Read, W: Write, L: Log>(
     log: &L,
     alloc: Global,
-    form: Form,
     reader: &mut R,
     writer: &mut W,
 ) -> Result<Drawn, DrawError>
-    ensures { IfOk result (λ drawn. IfSome (R.remaining reader.old)
-        (λ input. DrawsTrace (Blocks form) input drawn (W.contents writer.old)
-        (W.contents writer.new))) }
+    ensures draws { IfOk result (λ drawn. IfSome (R.remaining reader.old)
+        (λ input. DrawsTrace Picture input drawn (W.contents writer.old) (W.contents writer.new))) }
+    ensures unread { IfErr result (λ error. LeavesWritten error (W.contents writer.old)
+        (W.contents writer.new)) }
+{
+    let left = match replay_drawable(log, alloc, reader) {
+        Err(error) => return Err(DrawError::Trace(error)),
+        Ok(Replayed::Bad(number)) => return Ok(Drawn::Bad(number)),
+        Ok(Replayed::Whole(left)) => left,
+    };
+    let drawn = draw_left(alloc, &left, writer);
+    left.end(log);
+    match drawn {
+        Ok(drawn) => Ok(drawn),
+        Err(error) => Err(DrawError::Write(error)),
+    }
+}
+
+/// Reads a trace and writes the blocks that it leaves as JSON.
+fn draw_json<R: Read, W: Write, L: Log>(
+    log: &L,
+    alloc: Global,
+    reader: &mut R,
+    writer: &mut W,
+) -> Result<Drawn, DrawError>
+    ensures draws { IfOk result (λ drawn. IfSome (R.remaining reader.old)
+        (λ input. DrawsTrace Json input drawn (W.contents writer.old) (W.contents writer.new))) }
+    ensures unread { IfErr result (λ error. LeavesWritten error (W.contents writer.old)
+        (W.contents writer.new)) }
 {
     let trace = match replay_trace(log, alloc, reader) {
         Err(error) => return Err(DrawError::Trace(error)),
         Ok(Replayed::Bad(number)) => return Ok(Drawn::Bad(number)),
         Ok(Replayed::Whole(trace)) => trace,
     };
-    let written = draw(alloc, form, &trace, writer);
+    let written = draw(alloc, Form::Json, &trace, writer);
     trace.end(log);
     match written {
         Ok(()) => Ok(Drawn::Whole),
@@ -71,8 +105,10 @@ fn draw_times<R: Read, W: Write, L: Log>(
     reader: &mut R,
     writer: &mut W,
 ) -> Result<Drawn, DrawError>
-    ensures { IfOk result (λ drawn. IfSome (R.remaining reader.old)
+    ensures draws { IfOk result (λ drawn. IfSome (R.remaining reader.old)
         (λ input. DrawsTrace Times input drawn (W.contents writer.old) (W.contents writer.new))) }
+    ensures unread { IfErr result (λ error. LeavesWritten error (W.contents writer.old)
+        (W.contents writer.new)) }
 {
     let followed = match follow_trace(log, alloc, reader) {
         Err(error) => return Err(DrawError::Trace(error)),
@@ -96,11 +132,14 @@ pub fn draw_trace<R: Read, W: Write, L: Log>(
     reader: &mut R,
     writer: &mut W,
 ) -> Result<Drawn, DrawError>
-    ensures { IfOk result (λ drawn. IfSome (R.remaining reader.old)
+    ensures draws { IfOk result (λ drawn. IfSome (R.remaining reader.old)
         (λ input. DrawsTrace wanted input drawn (W.contents writer.old) (W.contents writer.new))) }
+    ensures unread { IfErr result (λ error. LeavesWritten error (W.contents writer.old)
+        (W.contents writer.new)) }
 {
     match wanted {
-        Wanted::Blocks(form) => draw_blocks(log, alloc, form, reader, writer),
+        Wanted::Picture => draw_picture(log, alloc, reader, writer),
+        Wanted::Json => draw_json(log, alloc, reader, writer),
         Wanted::OverTime => draw_times(log, alloc, reader, writer),
     }
 }

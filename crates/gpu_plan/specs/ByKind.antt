@@ -34,6 +34,7 @@ pub record AreOrdered (spans : List Span) : Type 0 where
   pub sized : All IsSpan spans
   pub sorted : IsNonDecreasingBy (λ s. s.start) spans
 
+-- so are the spans of each kind
 pub record BothOrdered (s : SpansByKind) : Type 0 where
   pub linear : AreOrdered s.linear.items
   pub optimal : AreOrdered s.optimal.items

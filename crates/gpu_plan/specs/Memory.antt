@@ -36,6 +36,7 @@ pub record IsOfWholePages (page : ℕ) (resources : List Resource) (heap : ℕ) 
   pub least : (n : ℕ) → heap ≤ n → n % page ≡ 0 → m.size ≤ n
   pub alignment : IsGreatest page resources m.alignment
 
+-- the memory in which a heap of these resources lies
 abbrev pub IsMemoryFor : (page : ℕ) → List Resource → (heap : ℕ) → Memory → Type 0
 IsMemoryFor page resources heap m = IsOfOneKind resources heap m ⊎ IsOfWholePages page resources heap m
 

@@ -4,10 +4,11 @@ use Rattle.gpu_plan.specs.declared.resource.Resource.{Resource}
 use Rattle.gpu_plan.specs.declared.resource.Placed.{Placed}
 use Rattle.gpu_plan.specs.declared.resource.Kind.TheVariants.{Linear}
 
--- the resource at an index
+-- what stands where there is no resource
 abbrev pub no_resource : Resource
 no_resource = record { size = 0; alignment = 0; kind = Linear; first = 0; last = 0 }
 
+-- the resource at an index
 abbrev pub resource_at : List Resource → (index : ℕ) → Resource
 resource_at resources index = slice_index_or resources index no_resource
 

@@ -12,6 +12,7 @@ use Rattle.gpu_plan.specs.Order.{passes_of, IsLog2}
 abbrev pub Has : Rank → (most pass second third : ℕ) → Type 0
 Has x most pass second third = (x.most.0 ≡ most) × (x.pass ≡ pass) × (x.second.0 ≡ second) × (x.third.0 ≡ third)
 
+-- the rank is that of its resource in an order
 abbrev pub Ranks : Order → List Resource → Rank → Type 0
 Ranks Size resources x = let r = resource_at resources x.index in Has x r.size 0 0 0
 Ranks Area resources x = let r = resource_at resources x.index in Has x (r.size * passes_of r) 0 0 0

@@ -18,6 +18,7 @@ pub record SaysNothing (line : List ℕ) : Type 0 where
   pub gives : IsBlank line → ⊥
   pub says : (c : Command) → SaysCommand line c → ⊥
 
+-- what a line says
 abbrev pub Means : List ℕ → Line → Type 0
 Means line lines.Blank = IsBlank line
 Means line (lines.Says c) = SaysCommand line c

@@ -11,6 +11,7 @@ use Rattle.gpu_plan_session.specs.declared.reply.Reply.{Reply}
 use Rattle.gpu_plan_session.specs.declared.reply.Reply.TheVariants.{Done, Busy, Refused}
 use Rattle.gpu_plan_session.specs.declared.reply.Reply.TheVariants as replies
 
+-- the caller's number of a reused resource, behind a space
 abbrev pub key_text : ℕ → List ℕ
 key_text key = codes " " ++ decimal key
 
@@ -22,6 +23,7 @@ reuses_text keys = codes " reuses " ++ (decimal (length keys) ++ flat_map key_te
 abbrev pub place_line : Place → List ℕ
 place_line p = codes "place " ++ (string_bytes p.name ++ (codes " " ++ (decimal p.offset ++ (codes " " ++ (decimal p.size ++ (reuses_text p.reuses.items ++ 10 ∷ []))))))
 
+-- the word of an order
 abbrev pub order_word : Order → List ℕ
 order_word Size = codes "size"
 order_word Area = codes "area"
@@ -29,6 +31,7 @@ order_word Alignment = codes "alignment"
 order_word Magnitude = codes "magnitude"
 order_word Breadth = codes "breadth"
 
+-- the last line of a plan
 abbrev pub heap_text : Solved → List ℕ
 heap_text s = codes "heap " ++ (decimal s.heap ++ (codes " peak " ++ (decimal s.peak ++ (codes " order " ++ order_word s.order))))
 
@@ -36,6 +39,7 @@ heap_text s = codes "heap " ++ (decimal s.heap ++ (codes " peak " ++ (decimal s.
 abbrev pub solved_text : Solved → List ℕ
 solved_text s = flat_map place_line s.places.items ++ heap_text s
 
+-- what is answered to a line
 abbrev pub reply_text : Reply → List ℕ
 reply_text Done = codes "ok"
 reply_text Busy = codes "busy"

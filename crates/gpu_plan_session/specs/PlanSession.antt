@@ -32,10 +32,11 @@ no_resources page = record { page = page; listed = [] }
 abbrev pub resources_of : List Listed → List Resource
 resources_of listed = map (λ x. x.resource) listed
 
--- the caller's number, and the name, of the resource at an index
+-- the caller's number of the resource at an index
 abbrev pub key_at : List Listed → (index : ℕ) → ℕ
 key_at listed index = slice_index (map (λ x. x.key) listed) index
 
+-- its name
 abbrev pub name_at : List Listed → (index : ℕ) → List ℕ
 name_at listed index = slice_index_or (map (λ x. string_bytes x.name) listed) index []
 
@@ -85,6 +86,7 @@ pub record IsPlace (listed : List Listed) (offsets : List ℕ) (index : ℕ) (p 
 abbrev pub ArePlaces : List Listed → (offsets : List ℕ) → List Place → Type 0
 ArePlaces listed offsets places = (i : ℕ) (d : Place) → i < length places → IsPlace listed offsets i (slice_index_or places i d)
 
+-- each resource's first byte, by its index
 abbrev pub offsets_of : List Place → List ℕ
 offsets_of places = map (λ p. p.offset) places
 

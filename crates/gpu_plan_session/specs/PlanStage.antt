@@ -15,6 +15,7 @@ Admits Before opens_plan = Unit {0}
 Admits (Open s) uses_plan = Unit {0}
 Admits _ _ = ⊥
 
+-- a command that may come, its reply, and the stage that it leaves
 abbrev pub Step : PlanStage → Command → Reply → PlanStage → Type 0
 Step Before (Plan page) r new = (r ≡ Done) × (new ≡ Open (no_resources page))
 Step (Open s) (Add key resource name) r (Open t) = Adding s (record { key = key; name = name; resource = resource }) r t

@@ -9,10 +9,12 @@ use Rattle.gpu_plan.specs.declared.resource.Resource.{Resource}
 use Rattle.gpu_plan_session.specs.declared.command.Command.{Command}
 use Rattle.gpu_plan_session.specs.declared.command.Command.TheVariants.{Plan, Add, Solve}
 
+-- the word of a kind
 abbrev pub kind_word : Kind → List ℕ
 kind_word Linear = codes "linear"
 kind_word Optimal = codes "nonlinear"
 
+-- the words of a command
 abbrev pub words : Command → List (List ℕ)
 words (Plan page) = codes "plan" ∷ decimal page ∷ []
 words (Add key r name) = codes "resource" ∷ decimal key ∷ decimal r.size ∷ decimal r.alignment ∷ kind_word r.kind ∷ decimal r.first ∷ decimal r.last ∷ string_bytes name ∷ []

@@ -110,6 +110,13 @@ impl PlanSession {
         }
     }
 
+    /// The resources, in the order in which they were added.
+    pub fn listed(&self) -> &[Listed]
+        ensures { result.now ≡ self.now.listed }
+    {
+        &self.listed
+    }
+
     /// Places all resources by the best plan.
     pub fn solve(&self, alloc: Global) -> Reply
         ensures { Solving self.now result }

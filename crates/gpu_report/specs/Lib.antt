@@ -14,3 +14,4 @@ pub mod ReportSvg
 pub mod View
 pub mod Samples
 pub mod Timeline
+pub mod PlanSvg

@@ -88,7 +88,7 @@ pub fn write_amount<W: fmt::Write>(bytes: u64, f: &mut fmt::Formatter<W>) -> fmt
 }
 
 #[tactic(auto, unfolding(crate::specs::Svg::class_svg))]
-fn write_class<W: fmt::Write>(look: Look, f: &mut fmt::Formatter<W>) -> fmt::Result
+pub fn write_class<W: fmt::Write>(look: Look, f: &mut fmt::Formatter<W>) -> fmt::Result
     ensures { DisplaysOnOk W.write_str_gives f.old result (Some (class_svg look)) f.new }
 {
     let class = class_of(look);
@@ -96,7 +96,7 @@ fn write_class<W: fmt::Write>(look: Look, f: &mut fmt::Formatter<W>) -> fmt::Res
 }
 
 #[tactic(auto, unfolding(crate::specs::Svg::span_svg))]
-fn write_span<W: fmt::Write>(x: u64, end: u64, f: &mut fmt::Formatter<W>) -> fmt::Result
+pub fn write_span<W: fmt::Write>(x: u64, end: u64, f: &mut fmt::Formatter<W>) -> fmt::Result
     ensures { DisplaysOnOk W.write_str_gives f.old result (Some (span_svg x end)) f.new }
 {
     let width = end.saturating_sub(x);
@@ -118,7 +118,7 @@ fn write_rectangle<W: fmt::Write>(
 }
 
 #[tactic(auto, unfolding(crate::specs::Svg::what_svg))]
-fn write_what<W: fmt::Write>(look: Look, f: &mut fmt::Formatter<W>) -> fmt::Result
+pub fn write_what<W: fmt::Write>(look: Look, f: &mut fmt::Formatter<W>) -> fmt::Result
     ensures { DisplaysOnOk W.write_str_gives f.old result (Some (what_svg look)) f.new }
 {
     let class = class_of(look);
@@ -126,14 +126,14 @@ fn write_what<W: fmt::Write>(look: Look, f: &mut fmt::Formatter<W>) -> fmt::Resu
 }
 
 #[tactic(auto, unfolding(crate::specs::Svg::bytes_svg))]
-fn write_bytes<W: fmt::Write>(start: u64, end: u64, f: &mut fmt::Formatter<W>) -> fmt::Result
+pub fn write_bytes<W: fmt::Write>(start: u64, end: u64, f: &mut fmt::Formatter<W>) -> fmt::Result
     ensures { DisplaysOnOk W.write_str_gives f.old result (Some (bytes_svg start end)) f.new }
 {
     let bytes = end.saturating_sub(start);
     write!(f, "{bytes} bytes at {start}")
 }
 
-fn write_named<W: fmt::Write>(name: &str, f: &mut fmt::Formatter<W>) -> fmt::Result
+pub fn write_named<W: fmt::Write>(name: &str, f: &mut fmt::Formatter<W>) -> fmt::Result
     ensures { DisplaysOnOk W.write_str_gives f.old result (Some (named name.now)) f.new }
 {
     if name.is_empty() {

@@ -1,4 +1,4 @@
-//! A block as it is to be shown.
+//! Blocks and resources of a plan as they are to be shown.
 
 ghost use Rattle.std.specs.Prelude.{◌≡◌, ◌++◌, map, OnOk, IfErr};
 ghost use Rattle.gpu_values.specs.declared.error.AllocationError.TheVariants.{HostOutOfMemory};
@@ -6,6 +6,7 @@ ghost use Rattle.gpu_report.specs.View.{shown, shown_from};
 
 use gpu_block::SubAllocator;
 use gpu_core::MemoryType;
+use gpu_plan::Placed;
 use gpu_values::Result;
 
 /// A block, where it stands in its allocator, and the page size of its memory type in bytes, 1 where pages don't matter.
@@ -15,6 +16,13 @@ pub struct BlockView<'a> {
     pub slot: usize,
     pub page_size: u64,
     pub block: &'a SubAllocator,
+}
+
+/// A resource of a plan at its offset, and its name.
+#[derive(Clone, Copy)]
+pub struct ResourceView<'a> {
+    pub name: &'a str,
+    pub placed: Placed,
 }
 
 /// Adds a view of each live block of a memory type, by slot; `index` is what the memory type is numbered by. The only refusal is

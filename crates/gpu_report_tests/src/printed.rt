@@ -7,7 +7,8 @@ use gpu_core::{
     AllocationReport, AllocationType, AllocatorReport, DedicatedBlockAllocator, FreeListAllocator,
     MemoryBlockReport, SubAllocator,
 };
-use gpu_report::{BlockView, BlocksJson, BlocksSvg, ReportJson, ReportSvg};
+use gpu_plan::{Kind, Placed, Resource};
+use gpu_report::{BlockView, BlocksJson, BlocksSvg, PlanSvg, ReportJson, ReportSvg, ResourceView};
 use serde_json::Value;
 use std::alloc::Global;
 use std::fmt::Display;
@@ -365,4 +366,78 @@ fn many_print(alloc: Global) -> bool {
 #[test]
 fn many_blocks(rt: HostRuntime) {
     check(&rt, &[many_print(rt.alloc())]);
+}
+
+/// A resource of so many bytes at an offset, in these passes.
+fn planned(name: &str, kind: Kind, bytes: (u64, u64), passes: (u64, u64)) -> ResourceView<'_> {
+    ResourceView {
+        name,
+        placed: Placed {
+            resource: Resource {
+                size: bytes.1,
+                alignment: 1,
+                kind,
+                first: passes.0,
+                last: passes.1,
+            },
+            offset: bytes.0,
+        },
+    }
+}
+
+/// In four passes and 128 bytes the first resource takes half of each, from the left and from below.
+const OF_A_PLAN: &[&str] = &[
+    ">2 resources in 4 passes: heap 128 B, peak 96 B</text>",
+    "<rect class=\"linear\" x=\"0\" width=\"5000\" y=\"2250\" height=\"2250\"><title>linear, 64 bytes at 0, passes 0 to 1: a&lt;b</title></rect>\n<text x=\"30\" y=\"2370\">a&lt;b</text>\n",
+    "<rect class=\"nonlinear\" x=\"2500\" width=\"7500\" y=\"0\" height=\"1125\"><title>nonlinear, 32 bytes at 96, passes 1 to 3: c</title></rect>\n<text x=\"2530\" y=\"120\">c</text>\n",
+    "<path class=\"line\" d=\"M7500 0v4500\"/><text x=\"7530\" y=\"4630\">3</text>\n<path d=\"M0 1125h10000\"",
+];
+
+const MOST: u64 = 18_446_744_073_709_551_615;
+
+/// The last byte and the last pass of 64 bits lie inside, without the name; a pass or an end behind them is drawn at theirs.
+const LARGEST_OF_A_PLAN: &[&str] = &[
+    ">2 resources in 18446744073709551615 passes: heap 15.9 EiB, peak 15.9 EiB</text>",
+    "x=\"0\" width=\"10000\" y=\"0\" height=\"4500\"><title>linear, 18446744073709551615 bytes at 0, passes 0 to 18446744073709551615: all</title></rect>\n<text",
+    "x=\"10000\" width=\"0\" y=\"0\" height=\"1\"><title>nonlinear, 1 bytes at 18446744073709551614, passes 18446744073709551615 to 18446744073709551615: end</title></rect>\n<path d=\"M0 0h10000\"",
+];
+
+const NO_PLAN: &[&str] = &[
+    ">0 resources in 0 passes: heap 0 B, peak 0 B</text>",
+    "<title>heap, 0 bytes</title></rect>\n<path d=\"M0 4500h10000\"",
+];
+
+/// What is told of these resources in a heap.
+fn plan_prints(
+    alloc: Global,
+    resources: &[ResourceView<'_>],
+    heap: u64,
+    peak: u64,
+    want: &[&str],
+) -> bool {
+    let picture = PlanSvg {
+        resources,
+        heap,
+        peak,
+    };
+    prints_among(alloc, &picture, want)
+}
+
+#[test]
+fn plans(rt: HostRuntime) {
+    let alloc = rt.alloc();
+    let two = [
+        planned("a<b", Kind::Linear, (0, 64), (0, 1)),
+        planned("c", Kind::Optimal, (96, 32), (1, 3)),
+    ];
+    let largest = [
+        planned("all", Kind::Linear, (0, MOST), (0, MOST)),
+        planned("end", Kind::Optimal, (MOST - 1, 1), (MOST, MOST)),
+    ];
+    let steps = [
+        plan_prints(alloc, &two, 128, 96, OF_A_PLAN),
+        plan_prints(alloc, &largest, MOST, MOST, LARGEST_OF_A_PLAN),
+        plan_prints(alloc, &[], 0, 0, NO_PLAN),
+    ];
+    check(&rt, &steps);
 }

@@ -48,10 +48,11 @@ EndsFrame old (Some frame) new = (HasNoFrame old → ⊥) × (frame.number ≡ o
 abbrev pub IsInFlight : RingState → Frame → Type 0
 IsInFlight r frame = (r.first ≤ frame.number) × (frame.number < r.first + length r.frames)
 
--- how many frames there are up to that one, and their bytes
+-- how many frames there are up to that one
 abbrev pub frames_up_to : RingState → Frame → ℕ
 frames_up_to r frame = frame.number + 1 - r.first
 
+-- their bytes
 abbrev pub bytes_up_to : RingState → Frame → ℕ
 bytes_up_to r frame = bytes_of (take (frames_up_to r frame) r.frames)
 
