@@ -3,8 +3,8 @@
  * It says where pieces lie; it holds no memory of a device and calls no driver. Link libgpu_c.a, and pilhangko_heap.c over the program's
  * malloc, realloc and free (docs/C.md). No call blocks, calls back or starts a thread.
  *
- * Handles. A pilhangko_virtual_block, a pilhangko_ring, a pilhangko_memory_type, a pilhangko_allocator or a pilhangko_heaps is one pointer
- * that the caller keeps and the library owns. The caller upholds:
+ * Handles. A pilhangko_virtual_block, a pilhangko_ring, a pilhangko_memory_type, a pilhangko_allocator, a pilhangko_heaps or a
+ * pilhangko_metal_heaps is one pointer that the caller keeps and the library owns. The caller upholds:
  *   - It begins zeroed, as in `pilhangko_virtual_block block = {0};`, and is empty then. create fills it, destroy leaves it empty. Each
  *     other call on an empty handle returns PILHANGKO_NO_HANDLE, so a call after destroy and a second destroy are refused.
  *   - It is never copied, and its field is never written or read. (To move it, copy it and never use the old one again.)
@@ -14,8 +14,8 @@
  *     threads, also for a block that another one allocated, as a C library's are.
  *   - It is not used in a signal handler, nor in the forked child of a process with threads.
  * A handle that is never destroyed leaks its host memory. A piece doesn't say which handle it is of: one of another virtual block, memory
- * type, allocator or pilhangko_heaps, or of one that was destroyed, is taken for the live piece here that has the same numbers, where there
- * is one. (The allocations of a pilhangko_vulkan do say it.)
+ * type, allocator, pilhangko_heaps or pilhangko_metal_heaps, or of one that was destroyed, is taken for the live piece here that has the
+ * same numbers, where there is one. (The allocations of a binding do say it.)
  *
  * const. A call on a `const` handle changes nothing that lies behind it. It still needs the handle to itself, since it takes the value out
  * and puts it back: two such calls may not overlap either, and a handle is never itself defined const.
@@ -70,13 +70,13 @@
 extern "C" {
 #endif
 
-/* What a call returns, of this header and of the Vulkan binding. pilhangko_status_name and pilhangko_status_text have each one's name and
+/* What a call returns, of this header and of the bindings. pilhangko_status_name and pilhangko_status_text have each one's name and
  * one line of text.
  *
  * 1 to 11 are the allocators' errors by the numbers that they have everywhere in this project. 12 and 13 are two causes that have the
  * number 6 elsewhere, 14 and 15 two that have 5; 16 to 99 are kept for further errors. From 100 on the handle is in another state than the
  * call needs, from 200 on the header's own test of what it was passed has failed, from 300 on it is the Vulkan binding's
- * (pilhangko_vulkan.h). */
+ * (pilhangko_vulkan.h), from 400 on the DirectX 12 binding's (pilhangko_d3d12.h), from 500 on the Metal binding's (pilhangko_metal.h). */
 typedef uint32_t pilhangko_status;
 enum {
     /* The call did what it says. */
@@ -148,7 +148,23 @@ enum {
     /* The nonCoherentAtomSize of a device is no power of two. */
     PILHANGKO_VULKAN_INVALID_ATOM_SIZE = 307,
     /* A device has more than 16 memory heaps. */
-    PILHANGKO_VULKAN_TOO_MANY_HEAPS = 308
+    PILHANGKO_VULKAN_TOO_MANY_HEAPS = 308,
+    /* The driver refused to make a resource, to map it or to tell its heap tier, or said S_OK and gave null. */
+    PILHANGKO_D3D12_CALL_FAILED = 400,
+    /* The device was removed; the driver's code is the reason. */
+    PILHANGKO_D3D12_DEVICE_REMOVED = 401,
+    /* No adapter was handed in, or it tells no budget. */
+    PILHANGKO_D3D12_NO_BUDGETS = 402,
+    /* The resource doesn't fit into the allocation there. */
+    PILHANGKO_D3D12_OUT_OF_RANGE = 403,
+    /* No memory segment group has that index. */
+    PILHANGKO_D3D12_NO_SUCH_GROUP = 404,
+    /* No capture is under way. */
+    PILHANGKO_D3D12_NO_CAPTURE = 405,
+    /* A heap made no resource. */
+    PILHANGKO_METAL_CALL_FAILED = 500,
+    /* No capture is under way. */
+    PILHANGKO_METAL_NO_CAPTURE = 501
 };
 
 /* How the types of named values are declared: 32 bits everywhere, of an unsigned type where the language lets it be said. A compiler that
@@ -526,6 +542,59 @@ typedef PILHANGKO_ENUM(pilhangko_create_call) {
     PILHANGKO_CALL_IN_LAYOUT_WITH_FORMATS = 3
 } pilhangko_create_call;
 
+/* ---- Metal heaps: all memory types of a Metal device, numbered 0, 1 and 2 for GPU_ONLY, CPU_TO_GPU and GPU_TO_CPU. It asks for heaps, and
+ * says which of them join and leave a residency set. A piece is a pilhangko_heaps_piece: place a resource in its heap, at piece.offset. ---- */
+
+typedef struct pilhangko_metal_heaps {
+    void *opaque; /* the library's own */
+} pilhangko_metal_heaps;
+
+/* Sizes of blocks are as with a memory type. */
+typedef struct pilhangko_metal_heaps_settings {
+    bool has_residency_set; /* whether heaps are to be members of an MTLResidencySet */
+    uint64_t device_block_size;
+    uint64_t largest_device_block_size;
+    uint64_t host_block_size;
+    uint64_t largest_host_block_size;
+} pilhangko_metal_heaps_settings;
+
+typedef struct pilhangko_metal_heaps_request {
+    uint64_t size;      /* not 0: what heapBufferSizeAndAlign or its like tells */
+    uint64_t alignment; /* a power of two: it too */
+    pilhangko_location location;
+} pilhangko_metal_heaps_request;
+
+/* What the device is to be asked for: a heap of MTLHeapTypePlacement, by the numbers of MTLHeapDescriptor. */
+typedef struct pilhangko_metal_heaps_question {
+    size_t memory_type;
+    uint64_t size;
+    pilhangko_location location;
+    uint32_t storage_mode;   /* MTLStorageMode: shared or private */
+    uint32_t cpu_cache_mode; /* MTLCPUCacheMode */
+    bool dedicated;          /* whether it is one piece's own, and not shared */
+} pilhangko_metal_heaps_question;
+
+/* kind says which member counts; the others are all zeros. Only refused reports PILHANGKO_PROGRESS_REFUSED. */
+typedef struct pilhangko_metal_heaps_progress {
+    pilhangko_progress_kind kind;
+    pilhangko_status status; /* why the request is refused, else PILHANGKO_OK */
+    pilhangko_heaps_piece piece;
+    pilhangko_metal_heaps_question question;
+} pilhangko_metal_heaps_progress;
+
+/* A piece of the heap that was asked for. */
+typedef struct pilhangko_metal_heaps_grant {
+    pilhangko_heaps_piece piece;
+    bool joins; /* whether that heap is to join the residency set now */
+} pilhangko_metal_heaps_grant;
+
+/* A heap by the caller's handle of it, or none (then the others are 0). */
+typedef struct pilhangko_metal_heap {
+    bool exists;
+    uint64_t heap;
+    bool leaves; /* whether it is to leave the residency set before it is released */
+} pilhangko_metal_heap;
+
 /* ---- Plans: transient resources of a frame that share the memory of one heap. No handle: each call is a function of what it is given. ---- */
 
 /* A resource that passes of a frame use. It is alive from its first pass to its last one, both included; passes are numbered in the order in
@@ -656,6 +725,9 @@ PILHANGKO_NODISCARD PILHANGKO_API pilhangko_status PILHANGKO_CALL pilhangko_raw_
     pilhangko_allocator *allocator, bool has_code, int32_t code, pilhangko_allocator_progress *progress);
 PILHANGKO_NODISCARD PILHANGKO_API pilhangko_status PILHANGKO_CALL pilhangko_raw_allocator_free(
     pilhangko_allocator *allocator, const pilhangko_allocator_piece *piece, pilhangko_allocator_memory *back);
+PILHANGKO_NODISCARD PILHANGKO_API pilhangko_status PILHANGKO_CALL pilhangko_raw_allocator_propose_move(pilhangko_allocator *allocator,
+    const pilhangko_allocator_piece *piece, const pilhangko_allocator_request *request, const char *name, size_t name_length, bool *moves,
+    pilhangko_allocator_piece *to);
 PILHANGKO_NODISCARD PILHANGKO_API pilhangko_status PILHANGKO_CALL pilhangko_raw_allocator_rename(
     pilhangko_allocator *allocator, const pilhangko_allocator_piece *piece, const char *name, size_t name_length);
 PILHANGKO_NODISCARD PILHANGKO_API pilhangko_status PILHANGKO_CALL pilhangko_raw_allocator_is_live(
@@ -696,6 +768,9 @@ PILHANGKO_NODISCARD PILHANGKO_API pilhangko_status PILHANGKO_CALL pilhangko_raw_
     pilhangko_heaps *heaps, int32_t code, pilhangko_heaps_progress *progress);
 PILHANGKO_NODISCARD PILHANGKO_API pilhangko_status PILHANGKO_CALL pilhangko_raw_heaps_free(
     pilhangko_heaps *heaps, const pilhangko_heaps_piece *piece, pilhangko_memory_block *back);
+PILHANGKO_NODISCARD PILHANGKO_API pilhangko_status PILHANGKO_CALL pilhangko_raw_heaps_propose_move(pilhangko_heaps *heaps,
+    const pilhangko_heaps_piece *piece, const pilhangko_heaps_request *request, const char *name, size_t name_length, bool *moves,
+    pilhangko_heaps_piece *to);
 PILHANGKO_NODISCARD PILHANGKO_API pilhangko_status PILHANGKO_CALL pilhangko_raw_heaps_rename(
     pilhangko_heaps *heaps, const pilhangko_heaps_piece *piece, const char *name, size_t name_length);
 PILHANGKO_NODISCARD PILHANGKO_API pilhangko_status PILHANGKO_CALL pilhangko_raw_heaps_is_live(
@@ -736,6 +811,47 @@ PILHANGKO_NODISCARD PILHANGKO_API pilhangko_status PILHANGKO_CALL pilhangko_raw_
 PILHANGKO_NODISCARD PILHANGKO_API pilhangko_status PILHANGKO_CALL pilhangko_raw_heaps_leak(
     const pilhangko_heaps *heaps, size_t index, char *text, size_t room, size_t *length);
 PILHANGKO_API pilhangko_status PILHANGKO_CALL pilhangko_raw_heaps_destroy(pilhangko_heaps *heaps);
+
+PILHANGKO_NODISCARD PILHANGKO_API pilhangko_status PILHANGKO_CALL pilhangko_raw_metal_heaps_create(
+    pilhangko_metal_heaps *heaps, const pilhangko_metal_heaps_settings *settings);
+PILHANGKO_NODISCARD PILHANGKO_API pilhangko_status PILHANGKO_CALL pilhangko_raw_metal_heaps_begin(pilhangko_metal_heaps *heaps,
+    const pilhangko_metal_heaps_request *request, const char *name, size_t name_length, pilhangko_metal_heaps_progress *progress);
+PILHANGKO_NODISCARD PILHANGKO_API pilhangko_status PILHANGKO_CALL pilhangko_raw_metal_heaps_granted(
+    pilhangko_metal_heaps *heaps, uint64_t heap, pilhangko_metal_heaps_grant *grant);
+PILHANGKO_NODISCARD PILHANGKO_API pilhangko_status PILHANGKO_CALL pilhangko_raw_metal_heaps_refused(
+    pilhangko_metal_heaps *heaps, pilhangko_metal_heaps_progress *progress);
+PILHANGKO_NODISCARD PILHANGKO_API pilhangko_status PILHANGKO_CALL pilhangko_raw_metal_heaps_free(
+    pilhangko_metal_heaps *heaps, const pilhangko_heaps_piece *piece, pilhangko_metal_heap *back);
+PILHANGKO_NODISCARD PILHANGKO_API pilhangko_status PILHANGKO_CALL pilhangko_raw_metal_heaps_propose_move(pilhangko_metal_heaps *heaps,
+    const pilhangko_heaps_piece *piece, const pilhangko_metal_heaps_request *request, const char *name, size_t name_length, bool *moves,
+    pilhangko_heaps_piece *to);
+PILHANGKO_NODISCARD PILHANGKO_API pilhangko_status PILHANGKO_CALL pilhangko_raw_metal_heaps_rename(
+    pilhangko_metal_heaps *heaps, const pilhangko_heaps_piece *piece, const char *name, size_t name_length);
+PILHANGKO_NODISCARD PILHANGKO_API pilhangko_status PILHANGKO_CALL pilhangko_raw_metal_heaps_is_live(
+    const pilhangko_metal_heaps *heaps, const pilhangko_heaps_piece *piece, bool *is_live);
+PILHANGKO_NODISCARD PILHANGKO_API pilhangko_status PILHANGKO_CALL pilhangko_raw_metal_heaps_set_budget(
+    pilhangko_metal_heaps *heaps, size_t memory_type, bool has_budget, uint64_t bytes);
+PILHANGKO_NODISCARD PILHANGKO_API pilhangko_status PILHANGKO_CALL pilhangko_raw_metal_heaps_budget(
+    const pilhangko_metal_heaps *heaps, size_t memory_type, pilhangko_budget *budget);
+PILHANGKO_NODISCARD PILHANGKO_API pilhangko_status PILHANGKO_CALL pilhangko_raw_metal_heaps_capacity(
+    const pilhangko_metal_heaps *heaps, uint64_t *bytes);
+PILHANGKO_NODISCARD PILHANGKO_API pilhangko_status PILHANGKO_CALL pilhangko_raw_metal_heaps_type_capacity(
+    const pilhangko_metal_heaps *heaps, size_t memory_type, uint64_t *bytes);
+PILHANGKO_NODISCARD PILHANGKO_API pilhangko_status PILHANGKO_CALL pilhangko_raw_metal_heaps_type_statistics(
+    const pilhangko_metal_heaps *heaps, size_t memory_type, pilhangko_type_statistics *statistics);
+PILHANGKO_NODISCARD PILHANGKO_API pilhangko_status PILHANGKO_CALL pilhangko_raw_metal_heaps_block(
+    const pilhangko_metal_heaps *heaps, size_t memory_type, size_t slot, pilhangko_metal_heap *block);
+PILHANGKO_NODISCARD PILHANGKO_API pilhangko_status PILHANGKO_CALL pilhangko_raw_metal_heaps_block_statistics(
+    const pilhangko_metal_heaps *heaps, size_t memory_type, size_t slot, pilhangko_memory_block_statistics *statistics);
+PILHANGKO_NODISCARD PILHANGKO_API pilhangko_status PILHANGKO_CALL pilhangko_raw_metal_heaps_pieces(
+    const pilhangko_metal_heaps *heaps, size_t memory_type, size_t slot, uint64_t from, pilhangko_piece_view *pieces, size_t room, size_t *count);
+PILHANGKO_NODISCARD PILHANGKO_API pilhangko_status PILHANGKO_CALL pilhangko_raw_metal_heaps_piece_names(const pilhangko_metal_heaps *heaps,
+    size_t memory_type, size_t slot, uint64_t from, size_t *lengths, size_t room, char *names, size_t names_room, size_t *count);
+PILHANGKO_NODISCARD PILHANGKO_API pilhangko_status PILHANGKO_CALL pilhangko_raw_metal_heaps_report(
+    const pilhangko_metal_heaps *heaps, char *text, size_t room, size_t *length);
+PILHANGKO_NODISCARD PILHANGKO_API pilhangko_status PILHANGKO_CALL pilhangko_raw_metal_heaps_leak(
+    const pilhangko_metal_heaps *heaps, size_t index, char *text, size_t room, size_t *length);
+PILHANGKO_API pilhangko_status PILHANGKO_CALL pilhangko_raw_metal_heaps_destroy(pilhangko_metal_heaps *heaps);
 
 PILHANGKO_NODISCARD PILHANGKO_API pilhangko_status PILHANGKO_CALL pilhangko_raw_plan(const pilhangko_plan_resource *resources, size_t count,
     uint64_t page_size, uint64_t *offsets, size_t room, pilhangko_heap_plan *plan);
@@ -784,6 +900,14 @@ static inline const char *pilhangko_status_name(pilhangko_status status) {
     case PILHANGKO_VULKAN_NO_CAPTURE: return "PILHANGKO_VULKAN_NO_CAPTURE";
     case PILHANGKO_VULKAN_INVALID_ATOM_SIZE: return "PILHANGKO_VULKAN_INVALID_ATOM_SIZE";
     case PILHANGKO_VULKAN_TOO_MANY_HEAPS: return "PILHANGKO_VULKAN_TOO_MANY_HEAPS";
+    case PILHANGKO_D3D12_CALL_FAILED: return "PILHANGKO_D3D12_CALL_FAILED";
+    case PILHANGKO_D3D12_DEVICE_REMOVED: return "PILHANGKO_D3D12_DEVICE_REMOVED";
+    case PILHANGKO_D3D12_NO_BUDGETS: return "PILHANGKO_D3D12_NO_BUDGETS";
+    case PILHANGKO_D3D12_OUT_OF_RANGE: return "PILHANGKO_D3D12_OUT_OF_RANGE";
+    case PILHANGKO_D3D12_NO_SUCH_GROUP: return "PILHANGKO_D3D12_NO_SUCH_GROUP";
+    case PILHANGKO_D3D12_NO_CAPTURE: return "PILHANGKO_D3D12_NO_CAPTURE";
+    case PILHANGKO_METAL_CALL_FAILED: return "PILHANGKO_METAL_CALL_FAILED";
+    case PILHANGKO_METAL_NO_CAPTURE: return "PILHANGKO_METAL_NO_CAPTURE";
     default: return "unknown status";
     }
 }
@@ -824,6 +948,14 @@ static inline const char *pilhangko_status_text(pilhangko_status status) {
     case PILHANGKO_VULKAN_NO_CAPTURE: return "no capture is under way";
     case PILHANGKO_VULKAN_INVALID_ATOM_SIZE: return "invalid device: nonCoherentAtomSize is no power of two";
     case PILHANGKO_VULKAN_TOO_MANY_HEAPS: return "invalid device: more than 16 memory heaps";
+    case PILHANGKO_D3D12_CALL_FAILED: return "the driver refused to make or to map a resource, or to tell its heap tier";
+    case PILHANGKO_D3D12_DEVICE_REMOVED: return "the device was removed";
+    case PILHANGKO_D3D12_NO_BUDGETS: return "no adapter tells budgets";
+    case PILHANGKO_D3D12_OUT_OF_RANGE: return "the resource doesn't fit into the allocation there";
+    case PILHANGKO_D3D12_NO_SUCH_GROUP: return "no memory segment group has that index";
+    case PILHANGKO_D3D12_NO_CAPTURE: return "no capture is under way";
+    case PILHANGKO_METAL_CALL_FAILED: return "a heap made no resource";
+    case PILHANGKO_METAL_NO_CAPTURE: return "no capture is under way";
     default: return "unknown status";
     }
 }
@@ -1212,6 +1344,19 @@ PILHANGKO_NODISCARD static inline pilhangko_status pilhangko_allocator_free(
     return pilhangko_raw_allocator_free(allocator, piece, back);
 }
 
+/* Looks for a second place for a live piece: the place that this request, the one that it was made for, would get as a new piece now, if that
+ * lies in a block of a higher slot. *moves says whether there is one, and *to is the piece there; no memory is asked for. Then both pieces are
+ * live: copy what lies at the first, and free it, which ends the move; or free the second, which abandons it. Where there is none the piece
+ * stays where it is, and *to is all zeros. The request's memory_type_bits and location aren't looked at.
+ * NO_HANDLE. AWAITS_ANSWER. INVALID: the request or the name, a size that isn't the piece's, or a scheme other than MANAGED. NOT_LIVE.
+ * HOST_OUT_OF_MEMORY. */
+PILHANGKO_NODISCARD static inline pilhangko_status pilhangko_allocator_propose_move(pilhangko_allocator *allocator,
+    const pilhangko_allocator_piece *piece, const pilhangko_allocator_request *request, const char *name, bool *moves,
+    pilhangko_allocator_piece *to) {
+    if (!allocator || !piece || !request || !moves || !to) return PILHANGKO_NULL_POINTER;
+    return pilhangko_raw_allocator_propose_move(allocator, piece, request, pilhangko_name_bytes(name), pilhangko_name_length(name), moves, to);
+}
+
 /* Renames a live piece.
  * NO_HANDLE. AWAITS_ANSWER. INVALID: the name. NOT_LIVE. HOST_OUT_OF_MEMORY. */
 PILHANGKO_NODISCARD static inline pilhangko_status pilhangko_allocator_rename(
@@ -1406,6 +1551,18 @@ PILHANGKO_NODISCARD static inline pilhangko_status pilhangko_heaps_free(
     pilhangko_heaps *heaps, const pilhangko_heaps_piece *piece, pilhangko_memory_block *back) {
     if (!heaps || !piece || !back) return PILHANGKO_NULL_POINTER;
     return pilhangko_raw_heaps_free(heaps, piece, back);
+}
+
+/* Looks for a second place for a live piece: the place that this request, the one that it was made for, would get as a new piece now, if that
+ * lies in a block of a higher slot. *moves says whether there is one, and *to is the piece there; no heap is asked for. Then both pieces are
+ * live: copy what lies at the first, and free it, which ends the move; or free the second, which abandons it. Where there is none the piece
+ * stays where it is, and *to is all zeros. The request's location and category aren't looked at.
+ * NO_HANDLE. AWAITS_ANSWER. INVALID: the request or the name, or a size that isn't the piece's. NOT_LIVE.
+ * HOST_OUT_OF_MEMORY. */
+PILHANGKO_NODISCARD static inline pilhangko_status pilhangko_heaps_propose_move(pilhangko_heaps *heaps, const pilhangko_heaps_piece *piece,
+    const pilhangko_heaps_request *request, const char *name, bool *moves, pilhangko_heaps_piece *to) {
+    if (!heaps || !piece || !request || !moves || !to) return PILHANGKO_NULL_POINTER;
+    return pilhangko_raw_heaps_propose_move(heaps, piece, request, pilhangko_name_bytes(name), pilhangko_name_length(name), moves, to);
 }
 
 /* Renames a live piece.
@@ -1608,6 +1765,206 @@ PILHANGKO_NODISCARD static inline pilhangko_status pilhangko_heaps_leak(
 static inline pilhangko_status pilhangko_heaps_destroy(pilhangko_heaps *heaps) {
     if (!heaps) return PILHANGKO_NULL_POINTER;
     return pilhangko_raw_heaps_destroy(heaps);
+}
+
+/* Makes an allocator without blocks in an empty handle.
+ * IN_USE: the handle isn't empty. HOST_OUT_OF_MEMORY. */
+PILHANGKO_NODISCARD static inline pilhangko_status pilhangko_metal_heaps_create(
+    pilhangko_metal_heaps *heaps, const pilhangko_metal_heaps_settings *settings) {
+    if (!heaps || !settings) return PILHANGKO_NULL_POINTER;
+    return pilhangko_raw_metal_heaps_create(heaps, settings);
+}
+
+/* Begins a request: it leads to a piece, or to a question for a heap, which stays open until the answer is told.
+ * NO_HANDLE. AWAITS_ANSWER: a question is open. INVALID: the request or the name. HOST_OUT_OF_MEMORY. And where a heap is
+ * needed: OUT_OF_MEMORY: the sum of the blocks' sizes would pass 2^64 - 1. BUDGET_EXCEEDED. */
+PILHANGKO_NODISCARD static inline pilhangko_status pilhangko_metal_heaps_begin(
+    pilhangko_metal_heaps *heaps, const pilhangko_metal_heaps_request *request, const char *name, pilhangko_metal_heaps_progress *progress) {
+    if (!heaps || !request || !progress) return PILHANGKO_NULL_POINTER;
+    return pilhangko_raw_metal_heaps_begin(heaps, request, pilhangko_name_bytes(name), pilhangko_name_length(name), progress);
+}
+
+/* The device made the heap that was asked for: says where the piece is, at the heap's start, and whether the heap joins the residency set.
+ * It needs no host memory, so that a heap which the device made is never lost. Heaps of live blocks should differ.
+ * NO_HANDLE. AWAITS_NO_ANSWER: no question is open. */
+PILHANGKO_NODISCARD static inline pilhangko_status pilhangko_metal_heaps_granted(
+    pilhangko_metal_heaps *heaps, uint64_t heap, pilhangko_metal_heaps_grant *grant) {
+    if (!heaps || !grant) return PILHANGKO_NULL_POINTER;
+    return pilhangko_raw_metal_heaps_granted(heaps, heap, grant);
+}
+
+/* The device made no heap. progress is the request's refusal: DRIVER_REFUSED. There is no second attempt.
+ * NO_HANDLE. AWAITS_NO_ANSWER. */
+PILHANGKO_NODISCARD static inline pilhangko_status pilhangko_metal_heaps_refused(
+    pilhangko_metal_heaps *heaps, pilhangko_metal_heaps_progress *progress) {
+    if (!heaps || !progress) return PILHANGKO_NULL_POINTER;
+    return pilhangko_raw_metal_heaps_refused(heaps, progress);
+}
+
+/* Frees a piece. Where back->exists, the heap back->heap goes back to the device; where back->leaves, it leaves the residency set before. It
+ * needs no host memory.
+ * NO_HANDLE. AWAITS_ANSWER. NOT_LIVE. */
+PILHANGKO_NODISCARD static inline pilhangko_status pilhangko_metal_heaps_free(
+    pilhangko_metal_heaps *heaps, const pilhangko_heaps_piece *piece, pilhangko_metal_heap *back) {
+    if (!heaps || !piece || !back) return PILHANGKO_NULL_POINTER;
+    return pilhangko_raw_metal_heaps_free(heaps, piece, back);
+}
+
+/* Looks for a second place for a live piece: the place that this request, the one that it was made for, would get as a new piece now, if that
+ * lies in a block of a higher slot. *moves says whether there is one, and *to is the piece there; no heap is asked for. Then both pieces are
+ * live: copy what lies at the first, and free it, which ends the move; or free the second, which abandons it. Where there is none the piece
+ * stays where it is, and *to is all zeros. The request's location isn't looked at.
+ * NO_HANDLE. AWAITS_ANSWER. INVALID: the request or the name, or a size that isn't the piece's. NOT_LIVE.
+ * HOST_OUT_OF_MEMORY. */
+PILHANGKO_NODISCARD static inline pilhangko_status pilhangko_metal_heaps_propose_move(pilhangko_metal_heaps *heaps,
+    const pilhangko_heaps_piece *piece, const pilhangko_metal_heaps_request *request, const char *name, bool *moves,
+    pilhangko_heaps_piece *to) {
+    if (!heaps || !piece || !request || !moves || !to) return PILHANGKO_NULL_POINTER;
+    return pilhangko_raw_metal_heaps_propose_move(heaps, piece, request, pilhangko_name_bytes(name), pilhangko_name_length(name), moves, to);
+}
+
+/* Renames a live piece.
+ * NO_HANDLE. AWAITS_ANSWER. INVALID: the name. NOT_LIVE. HOST_OUT_OF_MEMORY. */
+PILHANGKO_NODISCARD static inline pilhangko_status pilhangko_metal_heaps_rename(
+    pilhangko_metal_heaps *heaps, const pilhangko_heaps_piece *piece, const char *name) {
+    if (!heaps || !piece) return PILHANGKO_NULL_POINTER;
+    return pilhangko_raw_metal_heaps_rename(heaps, piece, pilhangko_name_bytes(name), pilhangko_name_length(name));
+}
+
+/* Whether a piece is live.
+ * NO_HANDLE. */
+PILHANGKO_NODISCARD static inline pilhangko_status pilhangko_metal_heaps_is_live(
+    const pilhangko_metal_heaps *heaps, const pilhangko_heaps_piece *piece, bool *is_live) {
+    if (!heaps || !piece || !is_live) return PILHANGKO_NULL_POINTER;
+    return pilhangko_raw_metal_heaps_is_live(heaps, piece, is_live);
+}
+
+/* Bounds the sum of the sizes of a memory type's blocks, or takes the bound away. A bound below the present sum gives no block back.
+ * NO_HANDLE. AWAITS_ANSWER: a question is open. NO_SUCH_TYPE. */
+PILHANGKO_NODISCARD static inline pilhangko_status pilhangko_metal_heaps_set_budget(
+    pilhangko_metal_heaps *heaps, size_t memory_type, bool has_budget, uint64_t bytes) {
+    if (!heaps) return PILHANGKO_NULL_POINTER;
+    return pilhangko_raw_metal_heaps_set_budget(heaps, memory_type, has_budget, bytes);
+}
+
+/* The bound of a memory type; none where it has none, or isn't there.
+ * NO_HANDLE. */
+PILHANGKO_NODISCARD static inline pilhangko_status pilhangko_metal_heaps_budget(
+    const pilhangko_metal_heaps *heaps, size_t memory_type, pilhangko_budget *budget) {
+    if (!heaps || !budget) return PILHANGKO_NULL_POINTER;
+    return pilhangko_raw_metal_heaps_budget(heaps, memory_type, budget);
+}
+
+/* The sum of the sizes of the live blocks. A block that is awaited isn't one.
+ * NO_HANDLE. */
+PILHANGKO_NODISCARD static inline pilhangko_status pilhangko_metal_heaps_capacity(
+    const pilhangko_metal_heaps *heaps, uint64_t *bytes) {
+    if (!heaps || !bytes) return PILHANGKO_NULL_POINTER;
+    return pilhangko_raw_metal_heaps_capacity(heaps, bytes);
+}
+
+/* The sum of the sizes of a memory type's blocks.
+ * NO_HANDLE. NO_SUCH_TYPE. */
+PILHANGKO_NODISCARD static inline pilhangko_status pilhangko_metal_heaps_type_capacity(
+    const pilhangko_metal_heaps *heaps, size_t memory_type, uint64_t *bytes) {
+    if (!heaps || !bytes) return PILHANGKO_NULL_POINTER;
+    return pilhangko_raw_metal_heaps_type_capacity(heaps, memory_type, bytes);
+}
+
+/* What is counted of a memory type, in linear time. Memory types are numbered from 0 up to the first NO_SUCH_TYPE.
+ * NO_HANDLE. NO_SUCH_TYPE. */
+PILHANGKO_NODISCARD static inline pilhangko_status pilhangko_metal_heaps_type_statistics(
+    const pilhangko_metal_heaps *heaps, size_t memory_type, pilhangko_type_statistics *statistics) {
+    if (!heaps || !statistics) return PILHANGKO_NULL_POINTER;
+    return pilhangko_raw_metal_heaps_type_statistics(heaps, memory_type, statistics);
+}
+
+/* The same of all memory types together: the sums, and the longest gap of any; without a budget.
+ * NO_HANDLE. */
+PILHANGKO_NODISCARD static inline pilhangko_status pilhangko_metal_heaps_statistics(
+    const pilhangko_metal_heaps *heaps, pilhangko_type_statistics *statistics) {
+    pilhangko_type_statistics all = {0, 0, 0, false, 0, 0, 0, 0, 0}, one;
+    pilhangko_status status;
+    size_t memory_type = 0;
+    if (!heaps || !statistics) return PILHANGKO_NULL_POINTER;
+    while ((status = pilhangko_raw_metal_heaps_type_statistics(heaps, memory_type++, &one)) == PILHANGKO_OK) {
+        all.capacity += one.capacity;
+        all.slots += one.slots;
+        all.shared_blocks += one.shared_blocks;
+        all.pieces += one.pieces;
+        all.piece_bytes += one.piece_bytes;
+        all.gaps += one.gaps;
+        if (one.longest_gap > all.longest_gap) all.longest_gap = one.longest_gap;
+    }
+    if (status != PILHANGKO_NO_SUCH_TYPE) return status;
+    *statistics = all;
+    return PILHANGKO_OK;
+}
+
+/* The heap of the block in a slot of a memory type, if one is there. Slots are numbered from 0 to one less than type_statistics' slots; behind them
+ * there is none.
+ * NO_HANDLE. */
+PILHANGKO_NODISCARD static inline pilhangko_status pilhangko_metal_heaps_block(
+    const pilhangko_metal_heaps *heaps, size_t memory_type, size_t slot, pilhangko_metal_heap *block) {
+    if (!heaps || !block) return PILHANGKO_NULL_POINTER;
+    return pilhangko_raw_metal_heaps_block(heaps, memory_type, slot, block);
+}
+
+/* What is counted of the block in a slot.
+ * NO_HANDLE. */
+PILHANGKO_NODISCARD static inline pilhangko_status pilhangko_metal_heaps_block_statistics(
+    const pilhangko_metal_heaps *heaps, size_t memory_type, size_t slot, pilhangko_memory_block_statistics *statistics) {
+    if (!heaps || !statistics) return PILHANGKO_NULL_POINTER;
+    return pilhangko_raw_metal_heaps_block_statistics(heaps, memory_type, slot, statistics);
+}
+
+/* All live pieces of the block in a slot whose own bytes begin at `from` or behind it, in order of offset; none where the slot has no
+ * block. One call with room for what block_statistics counts visits them all, in linear time.
+ * NO_HANDLE. */
+PILHANGKO_NODISCARD static inline pilhangko_status pilhangko_metal_heaps_pieces(const pilhangko_metal_heaps *heaps, size_t memory_type,
+    size_t slot, uint64_t from, pilhangko_piece_view *pieces, size_t room, size_t *count) {
+    pilhangko_piece_view none;
+    if (!heaps || (!pieces && room) || !count) return PILHANGKO_NULL_POINTER;
+    return pilhangko_raw_metal_heaps_pieces(heaps, memory_type, slot, from, pieces ? pieces : &none, room, count);
+}
+
+/* The names of the pieces of the block in a slot, as with a virtual block.
+ * NO_HANDLE. */
+PILHANGKO_NODISCARD static inline pilhangko_status pilhangko_metal_heaps_piece_names(const pilhangko_metal_heaps *heaps, size_t memory_type,
+    size_t slot, uint64_t from, size_t *lengths, size_t room, char *names, size_t names_room, size_t *count) {
+    size_t no_length;
+    char no_name;
+    if (!heaps || (!lengths && room) || (!names && names_room) || !count) return PILHANGKO_NULL_POINTER;
+    return pilhangko_raw_metal_heaps_piece_names(
+        heaps, memory_type, slot, from, lengths ? lengths : &no_length, room, names ? names : &no_name, names_room, count);
+}
+
+/* The report of what is allocated as JSON (docs/REPORT.md): copies as many bytes of it as there is room for, with no 0 behind them, and
+ * reports how many it has. A first call without room tells how much a second one needs.
+ * NO_HANDLE. HOST_OUT_OF_MEMORY. */
+PILHANGKO_NODISCARD static inline pilhangko_status pilhangko_metal_heaps_report(
+    const pilhangko_metal_heaps *heaps, char *text, size_t room, size_t *length) {
+    char none;
+    if (!heaps || (!text && room) || !length) return PILHANGKO_NULL_POINTER;
+    return pilhangko_raw_metal_heaps_report(heaps, text ? text : &none, room, length);
+}
+
+/* One live piece's text, as a leak is reported: the pieces have indices from 0, by memory type, then by slot, then in order of offset; past
+ * the last one the text is empty. Copies and reports as report does.
+ * NO_HANDLE. HOST_OUT_OF_MEMORY. */
+PILHANGKO_NODISCARD static inline pilhangko_status pilhangko_metal_heaps_leak(
+    const pilhangko_metal_heaps *heaps, size_t index, char *text, size_t room, size_t *length) {
+    char none;
+    if (!heaps || (!text && room) || !length) return PILHANGKO_NULL_POINTER;
+    return pilhangko_raw_metal_heaps_leak(heaps, index, text ? text : &none, room, length);
+}
+
+/* Ends an allocator, with all its pieces and the question that is open, and leaves the handle empty. Heaps are the caller's to release: go
+ * over types and slots by pilhangko_metal_heaps_block first.
+ * NO_HANDLE. */
+static inline pilhangko_status pilhangko_metal_heaps_destroy(pilhangko_metal_heaps *heaps) {
+    if (!heaps) return PILHANGKO_NULL_POINTER;
+    return pilhangko_raw_metal_heaps_destroy(heaps);
 }
 
 /* Places resources in one heap: at the offsets of the order with the smallest heap, of equal ones the first of pilhangko_plan_order. Two

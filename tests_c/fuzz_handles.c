@@ -517,6 +517,37 @@ static void renames_of_allocator(void) {
         allocator_status(true, is_utf8(name) ? live : (pilhangko_status)PILHANGKO_INVALID));
 }
 
+/* A second place is told where the account has one; else nothing changes. */
+static void proposes_move(void) {
+    const pilhangko_allocator_piece piece = some_allocation();
+    const char *name = next_name();
+    const long at = allocation_at(&piece);
+    pilhangko_allocator_request r;
+    r.size = next_byte() % 8 ? piece.piece.size : next_size();
+    r.alignment = next_alignment();
+    r.memory_type_bits = next_byte();
+    r.kind = 1 + next_small(3);
+    r.location = 1 + next_small(5);
+    r.scheme = next_byte() % 8 ? PILHANGKO_SCHEME_MANAGED : next_small(5);
+    r.resource = next_number();
+    const bool is_of_piece = is_valid_request(&r) && is_utf8(name) && r.size == piece.piece.size && r.scheme == PILHANGKO_SCHEME_MANAGED;
+    const pilhangko_status live = at >= 0 ? PILHANGKO_OK : PILHANGKO_NOT_LIVE;
+    const pilhangko_status status = allocator_status(true, is_of_piece ? live : (pilhangko_status)PILHANGKO_INVALID);
+    const pilhangko_memory_request asks = {r.size, r.alignment, r.kind, false};
+    pilhangko_allocator_piece to = {7, 7, {7, 7, 7, 7, 7}};
+    pilhangko_memory_piece place = {0, 0, 0, 0, 0};
+    const bool wanted =
+        status == PILHANGKO_OK && type_place(&account.types[piece.memory_type], piece.piece.slot + 1, &asks, name, &place);
+    bool moves = !wanted;
+    IS(pilhangko_allocator_propose_move(&allocator, &piece, &r, name, &moves, &to), status);
+    if (status != PILHANGKO_OK) {
+        CHECK(moves && to.memory_type == 7 && to.address == 7 && to.piece.number == 7);
+        return;
+    }
+    CHECK(moves == wanted && same_piece(&to.piece, &place) && to.memory_type == (wanted ? piece.memory_type : 0));
+    CHECK(to.address == (wanted ? address_of(piece.memory_type, place.block) : 0));
+}
+
 static void bounds_allocator(void) {
     const size_t at = next_byte() % 16 ? next_byte() % ACCOUNT_TYPES : next_number();
     const bool has = next_byte() % 2, is_there = has_allocator && at < account.type_count;
@@ -713,6 +744,7 @@ static void calls_allocator(uint8_t what) {
     else if (what < 75) renames_of_allocator();
     else if (what < 80) bounds_allocator();
     else if (what < 89) looks_at_allocator();
+    else if (what < 99) proposes_move();
     else ends_allocator();
 }
 
@@ -737,7 +769,7 @@ int LLVMFuzzerTestOneInput(const uint8_t *bytes, size_t length) {
         const uint8_t what = next_byte();
         if (handle < 2) calls_block(what % 81);
         else if (handle < 4) calls_type(what % 85);
-        else if (handle < 7) calls_allocator(what % 90);
+        else if (handle < 7) calls_allocator(what % 100);
         else calls_ring(what % 50);
     }
     if (has_block) ends_block(false);

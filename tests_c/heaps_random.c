@@ -11,7 +11,7 @@ static struct heaps_account account;
 static uint64_t next_heap, next_resource;
 static pilhangko_heaps_piece stale[STALE];
 static pilhangko_heaps_committed stale_records[STALE];
-static unsigned allocated, asked, refused, over_budget, invalid, awaiting, freed, went, dead, recorded, unmade, forgotten, unknown;
+static unsigned allocated, asked, refused, over_budget, invalid, awaiting, freed, went, dead, recorded, unmade, forgotten, unknown, moved, stayed;
 
 static const char *const names[] = {NULL, "", "piece", "a longer name of a piece", "\xc3\xa4"};
 
@@ -136,6 +136,34 @@ static void renames(void) {
                                                                           : PILHANGKO_NOT_LIVE;
     IS(pilhangko_heaps_rename(&heaps, &piece, name), status);
     if (status == PILHANGKO_OK) account.types[piece.memory_type].slots[piece.piece.slot].account.chunks[at].name = name ? name : "";
+}
+
+/* A second place for a piece, at times by a request that isn't of it. */
+static void proposes(void) {
+    const pilhangko_heaps_piece piece = some_piece();
+    const long at = heaps_find(&account, &piece);
+    const char *name = some_name();
+    pilhangko_heaps_request r = {piece.piece.size, UINT64_C(1) << random_below(17), (pilhangko_location)some_location(),
+        (pilhangko_category)some_category()};
+    if (random_below(100) == 0) r.alignment = random_below(8);
+    if (random_below(20) == 0) r.size++;
+    const bool is_of_piece = r.size != 0 && r.size == piece.piece.size && r.alignment != 0 && (r.alignment & (r.alignment - 1)) == 0 && is_known(r.location, r.category);
+    const pilhangko_memory_request asks = {r.size, r.alignment, PILHANGKO_KIND_LINEAR, false};
+    const pilhangko_status live = at >= 0 ? PILHANGKO_OK : PILHANGKO_NOT_LIVE, valid = is_of_piece ? live : (pilhangko_status)PILHANGKO_INVALID;
+    const pilhangko_status status = account.awaits_heap ? PILHANGKO_AWAITS_ANSWER : valid;
+    pilhangko_heaps_piece to = {7, {7, 7, 7, 7, 7}};
+    pilhangko_memory_piece place = {0, 0, 0, 0, 0};
+    const bool wanted =
+        status == PILHANGKO_OK && type_place(&account.types[piece.memory_type], piece.piece.slot + 1, &asks, name, &place);
+    bool moves = !wanted;
+    IS(pilhangko_heaps_propose_move(&heaps, &piece, &r, name, &moves, &to), status);
+    if (status != PILHANGKO_OK) {
+        CHECK(moves && to.memory_type == 7 && to.piece.number == 7);
+        return;
+    }
+    CHECK(moves == wanted && same_piece(&to.piece, &place) && to.memory_type == (wanted ? piece.memory_type : 0));
+    moved += moves;
+    stayed += !moves;
 }
 
 static void bounds(void) {
@@ -267,9 +295,10 @@ static void step(void) {
     const uint64_t what = random_below(1000);
     if (account.awaits_heap && random_below(3) != 0) answers();
     else if (account.awaits_resource && random_below(3) == 0) answers_committed();
-    else if (what < 310) begins();
-    else if (what < 320) answers();
-    else if (what < 690) frees();
+    else if (what < 260) begins();
+    else if (what < 270) answers();
+    else if (what < 640) frees();
+    else if (what < 690) proposes();
     else if (what < 730) renames();
     else if (what < 735) bounds();
     else if (what < 840) begins_committed();
@@ -289,9 +318,10 @@ int main(void) {
         IS(pilhangko_heaps_destroy(&heaps), PILHANGKO_OK);
     }
     printf("200000 calls: %u pieces allocated, %u heaps asked for, %u refused, %u over budget, %u invalid, %u while a question is open, "
-           "%u freed, %u heaps went, %u not live; %u resources recorded, %u not made, %u forgotten, %u unknown\n",
-        allocated, asked, refused, over_budget, invalid, awaiting, freed, went, dead, recorded, unmade, forgotten, unknown);
+           "%u freed, %u heaps went, %u not live, %u second places, %u none; %u resources recorded, %u not made, %u forgotten, %u unknown\n",
+        allocated, asked, refused, over_budget, invalid, awaiting, freed, went, dead, moved, stayed, recorded, unmade, forgotten, unknown);
     CHECK(allocated > 20000 && asked > 1000 && refused > 200 && over_budget > 100 && invalid > 1000 && awaiting > 100 && freed > 20000);
+    CHECK(moved > 300 && stayed > 1000);
     CHECK(went > 500 && dead > 1000 && recorded > 5000 && unmade > 1000 && forgotten > 5000 && unknown > 1000);
     return 0;
 }

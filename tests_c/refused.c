@@ -104,6 +104,33 @@ static bool allocator_has(const pilhangko_allocator *allocator, uint64_t capacit
     return pilhangko_allocator_capacity(allocator, &bytes) == PILHANGKO_OK && bytes == capacity;
 }
 
+/* Each piece's second place, which is given up again; a block with a gap of 1 MB is made for them. */
+static void second_places(pilhangko_allocator *allocator, const pilhangko_allocator_piece *pieces, uint64_t capacity) {
+    const pilhangko_allocator_request large = {3 * MB, 1, 3, PILHANGKO_KIND_LINEAR, 2, PILHANGKO_SCHEME_MANAGED, 0};
+    pilhangko_allocator_progress progress;
+    pilhangko_allocator_memory gone;
+    unsigned moved = 0;
+    TRIED(pilhangko_allocator_begin(allocator, &large, NULL, &progress), allocator_has(allocator, capacity));
+    CHECK(progress.kind == PILHANGKO_PROGRESS_QUESTION);
+    IS(pilhangko_allocator_granted(allocator, 99, 0, &progress.piece), PILHANGKO_OK);
+    capacity += 4 * MB;
+    for (unsigned i = 0; i < 12; i++) {
+        const pilhangko_allocator_request request = {pieces[i].piece.size, 1, 3, PILHANGKO_KIND_LINEAR, 2, PILHANGKO_SCHEME_MANAGED, 0};
+        pilhangko_allocator_piece to = {.memory_type = 9};
+        pilhangko_allocator_memory back;
+        bool moves = false;
+        TRIED(pilhangko_allocator_propose_move(allocator, &pieces[i], &request, "a name that takes memory of its own", &moves, &to),
+            allocator_has(allocator, capacity) && !moves && to.memory_type == 9);
+        if (!moves) continue;
+        const long before = heap_requests;
+        IS(pilhangko_allocator_free(allocator, &to, &back), PILHANGKO_OK);
+        CHECK(heap_requests == before && !back.exists);
+        moved++;
+    }
+    CHECK(moved == 4); /* the pieces of 1 MB there */
+    IS(pilhangko_allocator_free(allocator, &progress.piece, &gone), PILHANGKO_OK);
+}
+
 static void allocators(void) {
     pilhangko_allocator allocator = {0};
     const pilhangko_device_memory_type types[] = {{1, 0}, {6, 1}};
@@ -126,6 +153,7 @@ static void allocators(void) {
             capacity += progress.question.size;
         }
     }
+    second_places(&allocator, pieces, capacity);
     for (unsigned i = 0; i < 12; i++)
         TRIED(pilhangko_allocator_rename(&allocator, &pieces[i], "another name that takes memory of its own"),
             allocator_has(&allocator, capacity));
@@ -157,6 +185,33 @@ static void committed_resources(pilhangko_heaps *heaps, uint64_t capacity) {
     CHECK(heap_requests == before && heaps_have(heaps, capacity, 0));
 }
 
+/* The same in heaps. */
+static void second_places_in_heaps(pilhangko_heaps *heaps, const pilhangko_heaps_piece *pieces, uint64_t capacity) {
+    const pilhangko_heaps_request large = {3 * MB, 1, 2, 1};
+    pilhangko_heaps_progress progress;
+    pilhangko_memory_block gone;
+    unsigned moved = 0;
+    TRIED(pilhangko_heaps_begin(heaps, &large, NULL, &progress), heaps_have(heaps, capacity, 0));
+    CHECK(progress.kind == PILHANGKO_PROGRESS_QUESTION);
+    IS(pilhangko_heaps_granted(heaps, 99, &progress.piece), PILHANGKO_OK);
+    capacity += 4 * MB;
+    for (unsigned i = 0; i < 12; i++) {
+        const pilhangko_heaps_request request = {pieces[i].piece.size, 1, 2, 1};
+        pilhangko_heaps_piece to = {.memory_type = 99};
+        pilhangko_memory_block back;
+        bool moves = false;
+        TRIED(pilhangko_heaps_propose_move(heaps, &pieces[i], &request, "a name that takes memory of its own", &moves, &to),
+            heaps_have(heaps, capacity, 0) && !moves && to.memory_type == 99);
+        if (!moves) continue;
+        const long before = heap_requests;
+        IS(pilhangko_heaps_free(heaps, &to, &back), PILHANGKO_OK);
+        CHECK(heap_requests == before && !back.exists);
+        moved++;
+    }
+    CHECK(moved == 4);
+    IS(pilhangko_heaps_free(heaps, &progress.piece, &gone), PILHANGKO_OK);
+}
+
 static void all_heaps(void) {
     pilhangko_heaps heaps = {0};
     const pilhangko_heaps_settings settings = {1, 4 * MB, 0, 4 * MB, 0};
@@ -176,6 +231,7 @@ static void all_heaps(void) {
             capacity += progress.question.size;
         }
     }
+    second_places_in_heaps(&heaps, pieces, capacity);
     for (unsigned i = 0; i < 12; i++)
         TRIED(
             pilhangko_heaps_rename(&heaps, &pieces[i], "another name that takes memory of its own"), heaps_have(&heaps, capacity, 0));
@@ -187,23 +243,87 @@ static void all_heaps(void) {
     IS(pilhangko_heaps_destroy(&heaps), PILHANGKO_OK);
 }
 
-int main(void) {
+static bool metal_has(const pilhangko_metal_heaps *heaps, uint64_t capacity) {
+    uint64_t bytes;
+    return pilhangko_metal_heaps_capacity(heaps, &bytes) == PILHANGKO_OK && bytes == capacity;
+}
+
+/* The same in Metal's. */
+static void second_places_in_metal(pilhangko_metal_heaps *heaps, const pilhangko_metal_heaps_grant *grants, uint64_t capacity) {
+    const pilhangko_metal_heaps_request large = {3 * MB, 1, 2};
+    pilhangko_metal_heaps_progress progress;
+    pilhangko_metal_heaps_grant grant;
+    pilhangko_metal_heap gone;
+    unsigned moved = 0;
+    TRIED(pilhangko_metal_heaps_begin(heaps, &large, NULL, &progress), metal_has(heaps, capacity));
+    CHECK(progress.kind == PILHANGKO_PROGRESS_QUESTION);
+    IS(pilhangko_metal_heaps_granted(heaps, 99, &grant), PILHANGKO_OK);
+    capacity += 4 * MB;
+    for (unsigned i = 0; i < 12; i++) {
+        const pilhangko_metal_heaps_request request = {grants[i].piece.piece.size, 1, 2};
+        pilhangko_heaps_piece to = {.memory_type = 9};
+        pilhangko_metal_heap back;
+        bool moves = false;
+        TRIED(pilhangko_metal_heaps_propose_move(heaps, &grants[i].piece, &request, "a name that takes memory of its own", &moves, &to),
+            metal_has(heaps, capacity) && !moves && to.memory_type == 9);
+        if (!moves) continue;
+        const long before = heap_requests;
+        IS(pilhangko_metal_heaps_free(heaps, &to, &back), PILHANGKO_OK);
+        CHECK(heap_requests == before && !back.exists);
+        moved++;
+    }
+    CHECK(moved == 4);
+    IS(pilhangko_metal_heaps_free(heaps, &grant.piece, &gone), PILHANGKO_OK);
+}
+
+static void metal_heaps(void) {
+    pilhangko_metal_heaps heaps = {0};
+    const pilhangko_metal_heaps_settings settings = {true, 4 * MB, 0, 4 * MB, 0};
+    pilhangko_metal_heaps_grant grants[12];
+    TRIED(pilhangko_metal_heaps_create(&heaps, &settings), pilhangko_metal_heaps_destroy(&heaps) == PILHANGKO_NO_HANDLE);
+    uint64_t capacity = 0;
+    for (unsigned i = 0; i < 12; i++) {
+        pilhangko_metal_heaps_request request = {i % 3 ? MB : 4 * MB, 1, 2 + i % 2};
+        pilhangko_metal_heaps_progress progress = {.kind = 9};
+        TRIED(pilhangko_metal_heaps_begin(&heaps, &request, "a name that takes memory of its own", &progress),
+            metal_has(&heaps, capacity) && progress.kind == 9);
+        grants[i].piece = progress.piece;
+        if (progress.kind == PILHANGKO_PROGRESS_QUESTION) {
+            long before = heap_requests;
+            IS(pilhangko_metal_heaps_granted(&heaps, i, &grants[i]), PILHANGKO_OK);
+            CHECK(heap_requests == before); /* granted takes no memory */
+            capacity += progress.question.size;
+        }
+    }
+    second_places_in_metal(&heaps, grants, capacity);
+    for (unsigned i = 0; i < 12; i++)
+        TRIED(pilhangko_metal_heaps_rename(&heaps, &grants[i].piece, "another name that takes memory of its own"),
+            metal_has(&heaps, capacity));
+    long before = heap_requests;
+    pilhangko_metal_heap back;
+    for (unsigned i = 0; i < 12; i++) IS(pilhangko_metal_heaps_free(&heaps, &grants[i].piece, &back), PILHANGKO_OK);
+    CHECK(heap_requests == before);
+    IS(pilhangko_metal_heaps_destroy(&heaps), PILHANGKO_OK);
+}
+
+static void each_sort(void) {
     virtual_blocks();
     rings();
     memory_types();
     allocators();
     all_heaps();
+    metal_heaps();
+}
+
+int main(void) {
+    each_sort();
     long ample = heap_requests;
     CHECK(refusals == 0 && heap_held == 0 && ample > 0);
     for (long n = 1; n <= ample; n++) {
         heap_requests = 0;
         heap_refused = n;
         unsigned before = refusals;
-        virtual_blocks();
-        rings();
-        memory_types();
-        allocators();
-        all_heaps();
+        each_sort();
         CHECK(refusals == before + 1);
         CHECK(heap_held == 0);
     }

@@ -1,7 +1,7 @@
 /* A plain account of a memory type: its slots, each empty or a block with an account of its own (account.h). Its rules: a shared block
  * serves where one has a place, of several the one in the highest slot; a request that asks for a block of its own, or is larger than the
  * next shared block, gets one; shared blocks double with their count; a dedicated block goes into the lowest empty slot, a shared one into
- * the highest; a block without pieces goes, unless it is the only shared one. */
+ * the highest; a block without pieces goes, unless it is the only shared one. A piece's second place is one in a slot above its own. */
 #ifndef TYPE_ACCOUNT_H
 #define TYPE_ACCOUNT_H
 #include "account.h"
@@ -69,6 +69,21 @@ static inline size_t new_slot(const struct type_account *t, bool dedicated) {
     return found;
 }
 
+/* Serves a request in a shared block of a slot from `first` on, if one of them has a place. */
+static inline bool type_place(
+    struct type_account *t, size_t first, const pilhangko_memory_request *r, const char *name, pilhangko_memory_piece *placed) {
+    for (size_t i = t->slot_count; i-- > first;) {
+        struct slot *slot = &t->slots[i];
+        pilhangko_memory_piece piece = {i, 0, 0, r->size, slot->block};
+        if (!slot->exists || slot->dedicated ||
+            !account_allocate(&slot->account, r->size, r->alignment, r->kind, name, &piece.offset, &piece.number))
+            continue;
+        *placed = piece;
+        return true;
+    }
+    return false;
+}
+
 /* Serves a request in a shared block, or says which block is needed, or why there may be none. all_bytes is the sum of the sizes of all
  * blocks, those of other memory types too. */
 static inline pilhangko_status type_allocate(
@@ -77,15 +92,7 @@ static inline pilhangko_status type_allocate(
     bool dedicated = r->dedicated || r->size > shared;
     uint64_t size = dedicated ? r->size : shared;
     memset(placed, 0, sizeof *placed);
-    for (size_t i = t->slot_count; !dedicated && i-- > 0;) {
-        struct slot *slot = &t->slots[i];
-        pilhangko_memory_piece piece = {i, 0, 0, r->size, slot->block};
-        if (!slot->exists || slot->dedicated ||
-            !account_allocate(&slot->account, r->size, r->alignment, r->kind, name, &piece.offset, &piece.number))
-            continue;
-        placed->piece = piece;
-        return PILHANGKO_OK;
-    }
+    if (!dedicated && type_place(t, 0, r, name, &placed->piece)) return PILHANGKO_OK;
     if (size > UINT64_MAX - all_bytes) return PILHANGKO_OUT_OF_MEMORY;
     if (t->has_budget && type_capacity(t) + size > t->budget) return PILHANGKO_BUDGET_EXCEEDED;
     placed->needs_block = true;

@@ -54,10 +54,13 @@ use Rattle.gpu_device.specs.contracts.d3d12.types.ID3D12Heap as ID3D12Heap
 use Rattle.gpu_device.specs.contracts.d3d12.types.ID3D12HeapPartialEq.TheImpl as heap_eq
 use Rattle.gpu_device.specs.contracts.d3d12.types.ID3D12Resource as ID3D12Resource
 use Rattle.gpu_device.specs.contracts.d3d12.types.ResourceHeapTier as ResourceHeapTier
+use Rattle.gpu_device.specs.contracts.metal.types.MTLHeap as MTLHeap
+use Rattle.gpu_device.specs.contracts.metal.types.MTLHeapPartialEq.TheImpl as metal_heap_eq
 use Rattle.gpu_d3d12.specs.contracts.committed_record.CommittedRecord as CommittedRecord
 use Rattle.gpu_d3d12.specs.contracts.committed_requests.AwaitedResource as AwaitedResource
 use Rattle.gpu_d3d12.specs.contracts.committed_requests.CommittedRequests as CommittedRequests
 use Rattle.gpu_machine.specs.contracts.d3d12.machine.Machine as D3D12Machine
+use Rattle.gpu_machine.specs.contracts.metal.machine.Machine as MetalMachine
 use Rattle.gpu_machine.specs.contracts.vulkan.asking.Asking as Asking
 use Rattle.gpu_machine.specs.contracts.vulkan.description.Description as Description
 use Rattle.gpu_machine.specs.contracts.vulkan.machine.Machine as Machine
@@ -317,6 +320,21 @@ d3d12_of t =
 
 pub d3d12_send : IsSend D3D12Machine.the_row
 d3d12_send = d3d12_of (λ e. type_send ID3D12Heap.the_row e heap_number_send)
+
+-- ---- an allocator of Metal's memory
+metal_heap_send : IsSend MTLHeap.the_row
+metal_heap_send = search sendable depth 20
+
+metal_of : ((e : eq.Ghosts MTLHeap.the_row.Denot) → IsSend (MemoryType.the_row MTLHeap.the_row e)) → IsSend MetalMachine.the_row
+metal_of t =
+    let g = heap.send in let b = bool_send in
+    record {
+      owned = λ d vs x. ((λ vss. (tt, (g.owned _ vss.0, ((requests_of MTLHeap.the_row t metal_heap_eq.ghosts).owned x.0.requests vss.1.0, (b.owned x.0.has_set vss.1.1.0, tt))))), tt);
+      leaving = λ k d w. tt;
+    }
+
+pub metal_send : IsSend MetalMachine.the_row
+metal_send = metal_of (λ e. type_send MTLHeap.the_row e metal_heap_send)
 
 -- ---- a ring
 frame_send : IsSend FrameStatistics.the_row

@@ -1,7 +1,6 @@
 -- Answers of DirectX 12's machine as answers of an allocator behind a handle.
-use Rattle.std.proofs.Common.{◌≡◌, ℕ, ℤ, ◌≤◌, true, false, Bool, List, [], ◌∷◌, Option, Some, None, Ok, Err, refl, sym, ap, ◌∙◌, subst, arith}
-use Rattle.std.specs.Prelude.{◌↔◌, IsSome, IsTrue, length}
-use Rattle.gpu_values.specs.Refusal.{Refusal, refusal_of}
+use Rattle.std.proofs.Common.{◌≡◌, ℕ, ℤ, true, false, Bool, List, Option, Some, None, Ok, Err, refl, sym, ap, ◌∙◌, subst, arith}
+use Rattle.std.specs.Prelude.{◌↔◌, IsSome, IsTrue}
 use Rattle.gpu_values.specs.declared.error.AllocationError.{AllocationError}
 use Rattle.gpu_values.specs.declared.memory_location.MemoryLocation.{MemoryLocation}
 use Rattle.gpu_block.specs.Block.{HoldsPiece}
@@ -11,9 +10,9 @@ use Rattle.gpu_core.specs.declared.piece.Piece.{Piece}
 use Rattle.gpu_core.specs.Blocks.{Slots, slots_at}
 use Rattle.gpu_device.specs.declared.d3d12.types.ID3D12Heap.{ID3D12Heap}
 use Rattle.gpu_device.specs.declared.d3d12.types.ID3D12Resource.{ID3D12Resource}
-use Rattle.gpu_d3d12.specs.Allocate.{request_in, is_valid}
+use Rattle.gpu_d3d12.specs.Allocate.{request_in}
 use Rattle.gpu_d3d12.specs.Blocks.{is_same_heap}
-use Rattle.gpu_d3d12.specs.Committed.{records_at, place_of, fits}
+use Rattle.gpu_d3d12.specs.Committed.{records_at, fits}
 use Rattle.gpu_d3d12.specs.CommittedRequests as records
 use Rattle.gpu_d3d12.specs.CommittedRequests.{RecordState, record_of}
 use Rattle.gpu_d3d12.specs.HeapAnswer.{answer_refusal}

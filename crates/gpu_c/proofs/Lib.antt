@@ -12,6 +12,9 @@ mod AllocatorHandleWords
 mod HeapsHandleWords
 mod HeapsLaws
 mod HeapsRefusals
+mod MetalHeapsHandleWords
+mod MetalHeapsLaws
+mod MetalHeapsRefusals
 mod CreateCalls
 mod RingHandleWords
 mod Crosses

@@ -1,5 +1,5 @@
 -- An allocator of DirectX 12's memory behind a handle: what C says and is told, in the words of the machine.
-use Rattle.std.specs.Prelude.{◌≡◌, ℕ, ℤ, pos, ◌==◌, if◌then◌else◌, false, List, [], length, All, Option, Some, None, cond, IsSome, Result, Ok, Err}
+use Rattle.std.specs.Prelude.{◌≡◌, ℕ, ℤ, pos, ◌==◌, if◌then◌else◌, false, List, [], length, All, Option, Some, None, cond, IsSome, Ok, Err}
 use Rattle.std.specs.Int.NonZero.{non_zero_u64_get}
 use Rattle.std.specs.Option.{option_map}
 use Rattle.std.specs.Ordering.{int_eq}

@@ -5,9 +5,13 @@ pub mod Visit
 pub mod MemoryType
 pub mod Owned
 pub mod Allocator
+pub mod AllocatorMoves
 pub mod TypesVisit
 pub mod AllocatorChoice
 pub mod Heaps
+pub mod HeapsMoves
+pub mod MetalHeaps
+pub mod MetalHeapsMoves
 pub mod CreateCall
 pub mod Ring
 pub mod Handle

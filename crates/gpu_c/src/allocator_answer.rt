@@ -18,7 +18,8 @@ use gpu_machine::vulkan::{Allocated, LiveBlock, MemoryBack, Progress, Question};
 use gpu_values::Result;
 use std::num::NonZeroU64;
 
-fn piece_told(piece: &Piece<MappedMemory>) -> MemoryPiece
+/// A piece, as C is told of it.
+pub fn piece_told(piece: &Piece<MappedMemory>) -> MemoryPiece
     ensures { result ≡ piece_told piece.now }
 {
     MemoryPiece {
@@ -61,7 +62,8 @@ pub fn allocated_told(allocated: &Allocated<MappedMemory>) -> AllocatorPiece
     }
 }
 
-fn no_piece() -> AllocatorPiece
+/// No piece: all zeros.
+pub fn no_piece() -> AllocatorPiece
     ensures { result ≡ no_allocator_piece }
 {
     AllocatorPiece {

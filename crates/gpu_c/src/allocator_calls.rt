@@ -13,6 +13,7 @@ ghost use Rattle.gpu_c.specs.Status as status;
 ghost use Rattle.gpu_c.specs.Status.{IsOneOf};
 ghost use Rattle.gpu_c.specs.MemoryType.{number_if};
 ghost use Rattle.gpu_c.specs.Allocator.{device_told, device_status, IsFresh, SaysNothing, IsBegun, IsDenied, IsGranted, IsDeclined, code_if, IsLive, IsFreed, IsRenamed, budget_told};
+ghost use Rattle.gpu_c.specs.AllocatorMoves.{IsOfPiece, IsProposed};
 ghost use Rattle.gpu_c.specs.declared.status.TheConstants.{OK, OUT_OF_MEMORY, FAILED_TO_MAP, NO_MEMORY_TYPE, INVALID, INVALID_DEVICE, NOT_LIVE, HOST_OUT_OF_MEMORY, BUDGET_EXCEEDED, DRIVER_REFUSED, NO_SUCH_TYPE, TOO_MANY_TYPES, NO_SUCH_HEAP, NO_HANDLE, IN_USE, AWAITS_ANSWER, AWAITS_NO_ANSWER};
 
 use crate::allocator::{
@@ -20,6 +21,7 @@ use crate::allocator::{
 };
 use crate::allocator_answer::budget_told;
 use crate::allocator_handle::AllocatorHandle;
+use crate::allocator_moves::propose_move;
 use crate::allocator_request::device_status;
 use crate::allocator_values::{
     AllocatorBudget, AllocatorMemory, AllocatorPiece, AllocatorProgress, AllocatorRequest,
@@ -228,6 +230,49 @@ pub extern "C" fn pilhangko_raw_allocator_free(
         None => NO_HANDLE,
         Some(mut kept) => {
             let status = free(&mut kept, piece, back);
+            allocator.put(kept);
+            status
+        }
+    }
+}
+
+/// Looks for a second place for a live piece: the place that this request would get as a new piece now, if that lies in a block of a higher
+/// slot. Reports whether there is one, and the piece there; then both are live until one is freed: the first once its bytes stand at the
+/// second, or the second, which abandons the move. No memory is asked for. `AWAITS_ANSWER` where a question
+/// is open, else `INVALID` where the request is none that is served, not of the piece's size, or for a buffer or an image alone, else
+/// `NOT_LIVE`, else `HOST_OUT_OF_MEMORY`.
+#[unsafe(no_mangle)]
+pub extern "C" fn pilhangko_raw_allocator_propose_move(
+    allocator: &mut AllocatorHandle,
+    alloc: Global,
+    piece: &AllocatorPiece,
+    request: &AllocatorRequest,
+    name: &[u8],
+    moves: &mut bool,
+    to: &mut AllocatorPiece,
+) -> u32
+    ensures proposed { result ≡ status.ok → Changes allocator.old.value allocator.new.value
+        (λ old new. IsProposed old piece.now request.now name.now moves.new to.new new) }
+    ensures no_handle { (result ≡ status.no_handle) ↔ (allocator.old.value ≡ None) }
+    ensures awaits_answer { (result ≡ status.awaits_answer)
+        ↔ IsSomeAnd allocator.old.value (λ s. IsSome s.requests.awaited) }
+    ensures invalid { (result ≡ status.invalid) ↔ IsSomeAnd allocator.old.value
+        (λ s. (s.requests.awaited ≡ None) × (IsOfPiece piece.now request.now name.now → ⊥)) }
+    ensures not_live { (result ≡ status.not_live) ↔ IsSomeAnd allocator.old.value
+        (λ s. (s.requests.awaited ≡ None) × IsOfPiece piece.now request.now name.now
+        × (IsLive s piece.now → ⊥)) }
+    ensures host_out_of_memory { result ≡ status.host_out_of_memory → IsSomeAnd allocator.old.value
+        (λ s. (s.requests.awaited ≡ None) × IsOfPiece piece.now request.now name.now
+        × IsLive s piece.now) }
+    ensures statuses { IsOneOf result (status.ok ∷ status.no_handle ∷ status.awaits_answer
+        ∷ status.invalid ∷ status.not_live ∷ status.host_out_of_memory ∷ []) }
+    ensures refused { result ≢ status.ok → (allocator.new.value ≡ allocator.old.value)
+        × (moves.new ≡ moves.old) × (to.new ≡ to.old) }
+{
+    match allocator.take(alloc) {
+        None => NO_HANDLE,
+        Some(mut kept) => {
+            let status = propose_move(&mut kept, piece, request, name, moves, to);
             allocator.put(kept);
             status
         }

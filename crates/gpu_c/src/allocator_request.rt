@@ -21,6 +21,9 @@ use gpu_values::{AllocationSizes, AllocatorDebugSettings};
 use gpu_vulkan::{AllocationCreateDesc, Settings};
 use std::alloc::{AllocError, Global};
 
+/// Memory that is shared: whatever its owner puts there.
+pub const MANAGED: u32 = 1;
+
 /// How many memory types a device may have (`VK_MAX_MEMORY_TYPES`).
 const MAX_MEMORY_TYPES: usize = 32;
 

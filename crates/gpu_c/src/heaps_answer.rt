@@ -22,7 +22,8 @@ use gpu_machine::d3d12::{Allocated, Progress, Question};
 use gpu_values::AllocationError;
 use std::num::NonZeroU64;
 
-fn piece_told(piece: &Piece<ID3D12Heap>) -> MemoryPiece
+/// A piece, as C is told of it.
+pub fn piece_told(piece: &Piece<ID3D12Heap>) -> MemoryPiece
     ensures { result ≡ piece_told piece.now }
 {
     MemoryPiece {
@@ -62,7 +63,8 @@ pub fn allocated_told(allocated: &Allocated) -> HeapsPiece
     }
 }
 
-fn no_piece() -> HeapsPiece
+/// No piece: all zeros.
+pub fn no_piece() -> HeapsPiece
     ensures { result ≡ no_heaps_piece }
 {
     HeapsPiece {

@@ -14,6 +14,7 @@ ghost use Rattle.gpu_c.specs.Status.{IsOneOf};
 ghost use Rattle.gpu_c.specs.MemoryType.{number_if};
 ghost use Rattle.gpu_c.specs.Allocator.{budget_told};
 ghost use Rattle.gpu_c.specs.Heaps.{tier_named, IsFresh, AreNamed, IsAsked, IsBegun, IsDenied, IsGranted, IsDeclined, IsLive, IsFreed, IsRenamed, IsCommittedBegun, IsCommittedDenied, IsMade, IsNotMade, IsForgotten, HasNoRecord};
+ghost use Rattle.gpu_c.specs.HeapsMoves.{IsOfPiece, IsProposed};
 ghost use Rattle.gpu_c.specs.declared.status.TheConstants.{OK, OUT_OF_MEMORY, INVALID, INVALID_DEVICE, NOT_LIVE, HOST_OUT_OF_MEMORY, BUDGET_EXCEEDED, DRIVER_REFUSED, NO_SUCH_TYPE, NO_HANDLE, IN_USE, AWAITS_ANSWER, AWAITS_NO_ANSWER};
 
 use crate::allocator_answer::budget_told;
@@ -23,6 +24,7 @@ use crate::heaps::{
     refused, rename, set_budget,
 };
 use crate::heaps_handle::HeapsHandle;
+use crate::heaps_moves::propose_move;
 use crate::heaps_request::tier_named;
 use crate::heaps_values::{HeapsCommitted, HeapsPiece, HeapsProgress, HeapsRequest, HeapsSettings};
 use crate::memory_type_values::MemoryBlock;
@@ -188,6 +190,49 @@ pub extern "C" fn pilhangko_raw_heaps_free(
         None => NO_HANDLE,
         Some(mut kept) => {
             let status = free(&mut kept, piece, back);
+            heaps.put(kept);
+            status
+        }
+    }
+}
+
+/// Looks for a second place for a live piece: the place that this request would get as a new piece now, if that lies in a block of a higher
+/// slot. Reports whether there is one, and the piece there; then both are live until one is freed: the first once its bytes stand at the
+/// second, or the second, which abandons the move. No heap is asked for. `AWAITS_ANSWER` where a question
+/// is open, else `INVALID` where the request is none that is served or not of the piece's size, else
+/// `NOT_LIVE`, else `HOST_OUT_OF_MEMORY`.
+#[unsafe(no_mangle)]
+pub extern "C" fn pilhangko_raw_heaps_propose_move(
+    heaps: &mut HeapsHandle,
+    alloc: Global,
+    piece: &HeapsPiece,
+    request: &HeapsRequest,
+    name: &[u8],
+    moves: &mut bool,
+    to: &mut HeapsPiece,
+) -> u32
+    ensures proposed { result ≡ status.ok → Changes heaps.old.value heaps.new.value
+        (λ old new. IsProposed old piece.now request.now name.now moves.new to.new new) }
+    ensures no_handle { (result ≡ status.no_handle) ↔ (heaps.old.value ≡ None) }
+    ensures awaits_answer { (result ≡ status.awaits_answer)
+        ↔ IsSomeAnd heaps.old.value (λ s. IsSome s.requests.awaited) }
+    ensures invalid { (result ≡ status.invalid) ↔ IsSomeAnd heaps.old.value
+        (λ s. (s.requests.awaited ≡ None) × (IsOfPiece piece.now request.now name.now → ⊥)) }
+    ensures not_live { (result ≡ status.not_live) ↔ IsSomeAnd heaps.old.value
+        (λ s. (s.requests.awaited ≡ None) × IsOfPiece piece.now request.now name.now
+        × (IsLive s piece.now → ⊥)) }
+    ensures host_out_of_memory { result ≡ status.host_out_of_memory → IsSomeAnd heaps.old.value
+        (λ s. (s.requests.awaited ≡ None) × IsOfPiece piece.now request.now name.now
+        × IsLive s piece.now) }
+    ensures statuses { IsOneOf result (status.ok ∷ status.no_handle ∷ status.awaits_answer
+        ∷ status.invalid ∷ status.not_live ∷ status.host_out_of_memory ∷ []) }
+    ensures refused { result ≢ status.ok → (heaps.new.value ≡ heaps.old.value)
+        × (moves.new ≡ moves.old) × (to.new ≡ to.old) }
+{
+    match heaps.take(alloc) {
+        None => NO_HANDLE,
+        Some(mut kept) => {
+            let status = propose_move(&mut kept, piece, request, name, moves, to);
             heaps.put(kept);
             status
         }

@@ -6,6 +6,7 @@ ghost use Rattle.std.specs.Prelude.{◌≡◌};
 use crate::allocator_handle::AllocatorHandle;
 use crate::heaps_handle::HeapsHandle;
 use crate::memory_type_handle::MemoryTypeHandle;
+use crate::metal_heaps_handle::MetalHeapsHandle;
 use crate::ring_handle::RingHandle;
 use crate::virtual_block_handle::VirtualBlockHandle;
 
@@ -49,4 +50,11 @@ pub fn sent_heaps(heaps: HeapsHandle) -> HeapsHandle
     ensures { result ≡ heaps }
 {
     sent(heaps)
+}
+
+/// A handle of an allocator of Metal's memory may.
+pub fn sent_metal_heaps(metal: MetalHeapsHandle) -> MetalHeapsHandle
+    ensures { result ≡ metal }
+{
+    sent(metal)
 }

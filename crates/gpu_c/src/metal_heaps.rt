@@ -1,0 +1,192 @@
+//! What lies behind a handle of an allocator of Metal's memory: the machine of gpu_machine. Each call tests what C passes, and says in
+//! C's words what the machine answers.
+
+ghost use Rattle.std.specs.Prelude.{◌≡◌, ◌≢◌, ◌≤◌, ◌↔◌, [], ◌∷◌, length, IfSome, Some, None, IsSome, IsTrue, IsUtf8, Ok};
+ghost use Rattle.gpu_pool.specs.Idle.{SetsBudgetIdle};
+ghost use Rattle.gpu_c.specs.Status as status;
+ghost use Rattle.gpu_c.specs.Status.{IsOneOf};
+ghost use Rattle.gpu_c.specs.MemoryType.{number_if};
+ghost use Rattle.gpu_c.specs.MetalHeaps.{IsFresh, IsAsked, IsBegun, IsDenied, IsGranted, IsDeclined, IsLive, IsFreed, IsRenamed};
+ghost use Rattle.gpu_c.specs.declared.status.TheConstants.{OK, OUT_OF_MEMORY, FAILED_TO_MAP, NO_MEMORY_TYPE, INVALID, INVALID_DEVICE, NOT_LIVE, HOST_OUT_OF_MEMORY, BUDGET_EXCEEDED, DRIVER_REFUSED, NO_SUCH_TYPE, AWAITS_ANSWER, AWAITS_NO_ANSWER};
+
+use crate::heaps_values::HeapsPiece;
+use crate::memory_type::number_if;
+use crate::metal_heaps_answer::{block_told, grant_told, named_piece, progress_told, refused_told};
+use crate::metal_heaps_request::{described, sizes_of};
+use crate::metal_heaps_values::{
+    MetalHeapsBlock, MetalHeapsGrant, MetalHeapsProgress, MetalHeapsRequest, MetalHeapsSettings,
+};
+use crate::refusal::refusal_status;
+use crate::status::{
+    AWAITS_ANSWER, AWAITS_NO_ANSWER, HOST_OUT_OF_MEMORY, INVALID, NO_SUCH_TYPE, NOT_LIVE, OK,
+};
+use gpu_device::metal::MTLHeap;
+use gpu_machine::metal::Machine;
+use std::alloc::Global;
+
+/// A machine without blocks; `None` where the host refuses memory.
+pub fn fresh(alloc: Global, settings: &MetalHeapsSettings) -> Option<Machine>
+    ensures { IfSome result (IsFresh settings.now) }
+{
+    match Machine::new(alloc, sizes_of(settings), settings.has_residency_set) {
+        Err(_) => None,
+        Ok(machine) => Some(machine),
+    }
+}
+
+/// Begins a request: it leads to a piece or to a question.
+pub fn begin(
+    machine: &mut Machine,
+    request: &MetalHeapsRequest,
+    name: &[u8],
+    progress: &mut MetalHeapsProgress,
+) -> u32
+    ensures begun { result ≡ status.ok → IsBegun machine.old request.now name.now progress.new
+        machine.new }
+    ensures awaits_answer { (result ≡ status.awaits_answer) ↔ IsSome machine.old.requests.awaited }
+    ensures invalid { (result ≡ status.invalid)
+        ↔ (machine.old.requests.awaited ≡ None) × (IsAsked request.now name.now → ⊥) }
+    ensures denied { result ≢ status.ok → result ≢ status.awaits_answer → result ≢ status.invalid
+        → IsDenied machine.old request.now name.now result }
+    ensures statuses { IsOneOf result (status.ok ∷ status.awaits_answer ∷ status.invalid
+        ∷ status.out_of_memory ∷ status.host_out_of_memory ∷ status.budget_exceeded ∷ []) }
+    ensures refused { result ≢ status.ok
+        → (machine.new ≡ machine.old) × (progress.new ≡ progress.old) }
+{
+    if machine.awaits_answer() {
+        return AWAITS_ANSWER;
+    }
+    match described(request, name) {
+        None => INVALID,
+        Some(desc) => match machine.begin(&desc) {
+            Err(error) => refusal_status(&error),
+            Ok(begun) => {
+                *progress = progress_told(&begun);
+                OK
+            }
+        },
+    }
+}
+
+/// The device made the heap that was asked for.
+pub fn granted(machine: &mut Machine, heap: u64, grant: &mut MetalHeapsGrant) -> u32
+    ensures granted { result ≡ status.ok → IsGranted machine.old heap grant.new machine.new }
+    ensures awaits_no_answer { (result ≡ status.awaits_no_answer) ↔ (machine.old.requests.awaited ≡ None) }
+    ensures statuses { IsOneOf result (status.ok ∷ status.awaits_no_answer ∷ []) }
+    ensures refused { result ≢ status.ok → (machine.new ≡ machine.old) × (grant.new ≡ grant.old) }
+{
+    match machine.granted(MTLHeap(heap)) {
+        Err(_) => AWAITS_NO_ANSWER,
+        Ok(given) => {
+            *grant = grant_told(&given);
+            OK
+        }
+    }
+}
+
+/// The device made no heap.
+pub fn refused(machine: &mut Machine, progress: &mut MetalHeapsProgress) -> u32
+    ensures declined { result ≡ status.ok → IsDeclined machine.old progress.new machine.new }
+    ensures awaits_no_answer { (result ≡ status.awaits_no_answer) ↔ (machine.old.requests.awaited ≡ None) }
+    ensures statuses { IsOneOf result (status.ok ∷ status.awaits_no_answer ∷ []) }
+    ensures refused { result ≢ status.ok
+        → (machine.new ≡ machine.old) × (progress.new ≡ progress.old) }
+{
+    if machine.awaits_answer() {
+        *progress = refused_told(&machine.refused());
+        OK
+    } else {
+        AWAITS_NO_ANSWER
+    }
+}
+
+/// Frees a piece, and tells which heap goes back to the device, if one does, and whether it leaves the residency set before.
+pub fn free(machine: &mut Machine, piece: &HeapsPiece, back: &mut MetalHeapsBlock) -> u32
+    ensures freed { result ≡ status.ok → IsFreed machine.old piece.now back.new machine.new }
+    ensures awaits_answer { (result ≡ status.awaits_answer) ↔ IsSome machine.old.requests.awaited }
+    ensures not_live { (result ≡ status.not_live)
+        ↔ (machine.old.requests.awaited ≡ None) × (IsLive machine.old piece.now → ⊥) }
+    ensures statuses { IsOneOf result (status.ok ∷ status.awaits_answer ∷ status.not_live ∷ []) }
+    ensures refused { result ≢ status.ok → (machine.new ≡ machine.old) × (back.new ≡ back.old) }
+{
+    if machine.awaits_answer() {
+        return AWAITS_ANSWER;
+    }
+    match named_piece(piece) {
+        None => NOT_LIVE,
+        Some(named) => match machine.free(piece.memory_type, &named) {
+            Err(_) => NOT_LIVE,
+            Ok(went) => {
+                *back = block_told(went);
+                OK
+            }
+        },
+    }
+}
+
+/// Renames a piece.
+pub fn rename(machine: &mut Machine, piece: &HeapsPiece, name: &[u8]) -> u32
+    ensures renamed { result ≡ status.ok
+        → IsUtf8 name.now × IsRenamed machine.old piece.now name.now machine.new }
+    ensures awaits_answer { (result ≡ status.awaits_answer) ↔ IsSome machine.old.requests.awaited }
+    ensures invalid { (result ≡ status.invalid)
+        ↔ (machine.old.requests.awaited ≡ None) × (IsUtf8 name.now → ⊥) }
+    ensures not_live { (result ≡ status.not_live)
+        ↔ (machine.old.requests.awaited ≡ None) × IsUtf8 name.now × (IsLive machine.old piece.now → ⊥) }
+    ensures host_out_of_memory { result ≡ status.host_out_of_memory
+        → (machine.old.requests.awaited ≡ None) × IsUtf8 name.now × IsLive machine.old piece.now }
+    ensures statuses { IsOneOf result (status.ok ∷ status.awaits_answer ∷ status.invalid
+        ∷ status.not_live ∷ status.host_out_of_memory ∷ []) }
+    ensures refused { result ≢ status.ok → machine.new ≡ machine.old }
+{
+    if machine.awaits_answer() {
+        return AWAITS_ANSWER;
+    }
+    let Ok(name) = str::from_utf8(name) else {
+        return INVALID;
+    };
+    match named_piece(piece) {
+        None => NOT_LIVE,
+        Some(named) => {
+            if !machine.is_live(piece.memory_type, &named) {
+                return NOT_LIVE;
+            }
+            match machine.rename(piece.memory_type, &named, name) {
+                Err(_) => HOST_OUT_OF_MEMORY,
+                Ok(_) => OK,
+            }
+        }
+    }
+}
+
+/// Whether a piece is live.
+pub fn is_live(machine: &Machine, piece: &HeapsPiece) -> bool
+    ensures { IsTrue result ↔ IsLive machine.now piece.now }
+{
+    match named_piece(piece) {
+        None => false,
+        Some(named) => machine.is_live(piece.memory_type, &named),
+    }
+}
+
+/// Bounds the sum of the sizes of a memory type's blocks, or takes the bound away.
+pub fn set_budget(machine: &mut Machine, memory_type: usize, has_budget: bool, bytes: u64) -> u32
+    ensures bounded { result ≡ status.ok
+        → (machine.old.requests.awaited ≡ None) × SetsBudgetIdle machine.old.requests memory_type
+        (number_if has_budget bytes) (Ok tt) machine.new.requests
+        × (machine.new.has_set ≡ machine.old.has_set) }
+    ensures awaits_answer { (result ≡ status.awaits_answer) ↔ IsSome machine.old.requests.awaited }
+    ensures no_such_type { (result ≡ status.no_such_type)
+        ↔ (machine.old.requests.awaited ≡ None) × (length machine.old.requests.budgets ≤ memory_type) }
+    ensures statuses { IsOneOf result (status.ok ∷ status.awaits_answer ∷ status.no_such_type
+        ∷ []) }
+    ensures refused { result ≢ status.ok → machine.new ≡ machine.old }
+{
+    if machine.awaits_answer() {
+        return AWAITS_ANSWER;
+    }
+    match machine.set_budget(memory_type, number_if(has_budget, bytes)) {
+        Err(_) => NO_SUCH_TYPE,
+        Ok(_) => OK,
+    }
+}

@@ -1,0 +1,388 @@
+//! An allocator of Metal's memory for C: it calls no device, but asks its caller for heaps, and is told the answers. While a question is
+//! open, each call but the answers to it and those that only look returns `AWAITS_ANSWER`. A handle begins zeroed; create fills it and
+//! destroy leaves it zeroed. Any status but `OK` leaves everything as it was.
+
+ghost use Rattle.std.specs.Prelude.{◌≡◌, ◌≢◌, ◌≤◌, ◌↔◌, [], ◌∷◌, length, Some, None, Ok, IsSome, IsSomeAnd, IsTrue, IsUtf8};
+ghost use Rattle.gpu_core.specs.Blocks.{total_capacity};
+ghost use Rattle.gpu_core.specs.Budgets.{budget_at};
+ghost use Rattle.gpu_pool.specs.Idle.{SetsBudgetIdle};
+ghost use Rattle.gpu_c.specs.Handle.{Changes};
+ghost use Rattle.gpu_c.specs.Status as status;
+ghost use Rattle.gpu_c.specs.Status.{IsOneOf};
+ghost use Rattle.gpu_c.specs.MemoryType.{number_if};
+ghost use Rattle.gpu_c.specs.Allocator.{budget_told};
+ghost use Rattle.gpu_c.specs.MetalHeaps.{IsFresh, IsAsked, IsBegun, IsDenied, IsGranted, IsDeclined, IsLive, IsFreed, IsRenamed};
+ghost use Rattle.gpu_c.specs.MetalHeapsMoves.{IsOfPiece, IsProposed};
+ghost use Rattle.gpu_c.specs.declared.status.TheConstants.{OK, OUT_OF_MEMORY, INVALID, NOT_LIVE, HOST_OUT_OF_MEMORY, BUDGET_EXCEEDED, DRIVER_REFUSED, NO_SUCH_TYPE, NO_HANDLE, IN_USE, AWAITS_ANSWER, AWAITS_NO_ANSWER};
+
+use crate::allocator_answer::budget_told;
+use crate::allocator_values::AllocatorBudget;
+use crate::heaps_values::HeapsPiece;
+use crate::metal_heaps::{begin, free, fresh, granted, is_live, refused, rename, set_budget};
+use crate::metal_heaps_handle::MetalHeapsHandle;
+use crate::metal_heaps_moves::propose_move;
+use crate::metal_heaps_values::{
+    MetalHeapsBlock, MetalHeapsGrant, MetalHeapsProgress, MetalHeapsRequest, MetalHeapsSettings,
+};
+use crate::status::{HOST_OUT_OF_MEMORY, IN_USE, NO_HANDLE, OK};
+use std::alloc::Global;
+
+/// Makes an allocator without blocks in an empty handle, whose heaps are members of a residency set or of none. `IN_USE` where the handle isn't
+/// empty, else `HOST_OUT_OF_MEMORY`.
+#[unsafe(no_mangle)]
+pub extern "C" fn pilhangko_raw_metal_heaps_create(
+    heaps: &mut MetalHeapsHandle,
+    alloc: Global,
+    settings: &MetalHeapsSettings,
+) -> u32
+    ensures created { result ≡ status.ok
+        → (heaps.old.value ≡ None) × IsSomeAnd heaps.new.value (IsFresh settings.now) }
+    ensures in_use { (result ≡ status.in_use) ↔ (heaps.old.value ≢ None) }
+    ensures host_out_of_memory { result ≡ status.host_out_of_memory → heaps.old.value ≡ None }
+    ensures statuses { IsOneOf result (status.ok ∷ status.in_use ∷ status.host_out_of_memory ∷ []) }
+    ensures refused { result ≢ status.ok → heaps.new.value ≡ heaps.old.value }
+{
+    if let Some(kept) = heaps.take(alloc) {
+        heaps.put(kept);
+        return IN_USE;
+    }
+    match fresh(alloc, settings) {
+        None => HOST_OUT_OF_MEMORY,
+        Some(machine) => match Box::new(alloc, machine) {
+            Err(_) => HOST_OUT_OF_MEMORY,
+            Ok(boxed) => {
+                heaps.put(boxed);
+                OK
+            }
+        },
+    }
+}
+
+/// Begins a request, and reports the piece that is allocated, or the heap that the device is to be asked for: then all host memory for its
+/// answer is at hand. `AWAITS_ANSWER` where a question is open, else `INVALID` where the request is none that is served, else what the machine
+/// refuses: `HOST_OUT_OF_MEMORY`, and where a heap is needed `OUT_OF_MEMORY`, else `BUDGET_EXCEEDED`.
+#[unsafe(no_mangle)]
+pub extern "C" fn pilhangko_raw_metal_heaps_begin(
+    heaps: &mut MetalHeapsHandle,
+    alloc: Global,
+    request: &MetalHeapsRequest,
+    name: &[u8],
+    progress: &mut MetalHeapsProgress,
+) -> u32
+    ensures begun { result ≡ status.ok → Changes heaps.old.value heaps.new.value
+        (λ old new. IsBegun old request.now name.now progress.new new) }
+    ensures no_handle { (result ≡ status.no_handle) ↔ (heaps.old.value ≡ None) }
+    ensures awaits_answer { (result ≡ status.awaits_answer)
+        ↔ IsSomeAnd heaps.old.value (λ s. IsSome s.requests.awaited) }
+    ensures invalid { (result ≡ status.invalid)
+        ↔ IsSomeAnd heaps.old.value
+        (λ s. (s.requests.awaited ≡ None) × (IsAsked request.now name.now → ⊥)) }
+    ensures denied { result ≢ status.ok → result ≢ status.no_handle → result ≢ status.awaits_answer
+        → result ≢ status.invalid → IsSomeAnd heaps.old.value
+        (λ s. IsDenied s request.now name.now result) }
+    ensures statuses { IsOneOf result (status.ok ∷ status.no_handle ∷ status.awaits_answer
+        ∷ status.invalid ∷ status.out_of_memory ∷ status.host_out_of_memory
+        ∷ status.budget_exceeded ∷ []) }
+    ensures refused { result ≢ status.ok
+        → (heaps.new.value ≡ heaps.old.value) × (progress.new ≡ progress.old) }
+{
+    match heaps.take(alloc) {
+        None => NO_HANDLE,
+        Some(mut kept) => {
+            let status = begin(&mut kept, request, name, progress);
+            heaps.put(kept);
+            status
+        }
+    }
+}
+
+/// The device made the heap that was asked for: reports the piece in it, and whether the heap joins the residency set. It takes no host memory.
+/// `AWAITS_NO_ANSWER` where no question is open.
+#[unsafe(no_mangle)]
+pub extern "C" fn pilhangko_raw_metal_heaps_granted(
+    heaps: &mut MetalHeapsHandle,
+    alloc: Global,
+    heap: u64,
+    grant: &mut MetalHeapsGrant,
+) -> u32
+    ensures granted { result ≡ status.ok → Changes heaps.old.value heaps.new.value
+        (λ old new. IsGranted old heap grant.new new) }
+    ensures no_handle { (result ≡ status.no_handle) ↔ (heaps.old.value ≡ None) }
+    ensures awaits_no_answer { (result ≡ status.awaits_no_answer)
+        ↔ IsSomeAnd heaps.old.value (λ s. s.requests.awaited ≡ None) }
+    ensures statuses { IsOneOf result (status.ok ∷ status.no_handle ∷ status.awaits_no_answer
+        ∷ []) }
+    ensures refused { result ≢ status.ok
+        → (heaps.new.value ≡ heaps.old.value) × (grant.new ≡ grant.old) }
+{
+    match heaps.take(alloc) {
+        None => NO_HANDLE,
+        Some(mut kept) => {
+            let status = granted(&mut kept, heap, grant);
+            heaps.put(kept);
+            status
+        }
+    }
+}
+
+/// The device made no heap: reports why the request is refused, which then is over. `AWAITS_NO_ANSWER` where no question is open.
+#[unsafe(no_mangle)]
+pub extern "C" fn pilhangko_raw_metal_heaps_refused(
+    heaps: &mut MetalHeapsHandle,
+    alloc: Global,
+    progress: &mut MetalHeapsProgress,
+) -> u32
+    ensures declined { result ≡ status.ok → Changes heaps.old.value heaps.new.value
+        (λ old new. IsDeclined old progress.new new) }
+    ensures no_handle { (result ≡ status.no_handle) ↔ (heaps.old.value ≡ None) }
+    ensures awaits_no_answer { (result ≡ status.awaits_no_answer)
+        ↔ IsSomeAnd heaps.old.value (λ s. s.requests.awaited ≡ None) }
+    ensures statuses { IsOneOf result (status.ok ∷ status.no_handle ∷ status.awaits_no_answer
+        ∷ []) }
+    ensures refused { result ≢ status.ok
+        → (heaps.new.value ≡ heaps.old.value) × (progress.new ≡ progress.old) }
+{
+    match heaps.take(alloc) {
+        None => NO_HANDLE,
+        Some(mut kept) => {
+            let status = refused(&mut kept, progress);
+            heaps.put(kept);
+            status
+        }
+    }
+}
+
+/// Frees a live piece, and reports the heap that goes back to the device, if one does, and whether it leaves the residency set before. It takes
+/// no host memory. `AWAITS_ANSWER` where a question is open, else `NOT_LIVE`.
+#[unsafe(no_mangle)]
+pub extern "C" fn pilhangko_raw_metal_heaps_free(
+    heaps: &mut MetalHeapsHandle,
+    alloc: Global,
+    piece: &HeapsPiece,
+    back: &mut MetalHeapsBlock,
+) -> u32
+    ensures freed { result ≡ status.ok → Changes heaps.old.value heaps.new.value
+        (λ old new. IsFreed old piece.now back.new new) }
+    ensures no_handle { (result ≡ status.no_handle) ↔ (heaps.old.value ≡ None) }
+    ensures awaits_answer { (result ≡ status.awaits_answer)
+        ↔ IsSomeAnd heaps.old.value (λ s. IsSome s.requests.awaited) }
+    ensures not_live { (result ≡ status.not_live)
+        ↔ IsSomeAnd heaps.old.value (λ s. (s.requests.awaited ≡ None) × (IsLive s piece.now → ⊥)) }
+    ensures statuses { IsOneOf result (status.ok ∷ status.no_handle ∷ status.awaits_answer
+        ∷ status.not_live ∷ []) }
+    ensures refused { result ≢ status.ok
+        → (heaps.new.value ≡ heaps.old.value) × (back.new ≡ back.old) }
+{
+    match heaps.take(alloc) {
+        None => NO_HANDLE,
+        Some(mut kept) => {
+            let status = free(&mut kept, piece, back);
+            heaps.put(kept);
+            status
+        }
+    }
+}
+
+/// Looks for a second place for a live piece: the place that this request would get as a new piece now, if that lies in a block of a higher
+/// slot. Reports whether there is one, and the piece there; then both are live until one is freed: the first once its bytes stand at the
+/// second, or the second, which abandons the move. No heap is asked for. `AWAITS_ANSWER` where a question
+/// is open, else `INVALID` where the request is none that is served or not of the piece's size, else
+/// `NOT_LIVE`, else `HOST_OUT_OF_MEMORY`.
+#[unsafe(no_mangle)]
+pub extern "C" fn pilhangko_raw_metal_heaps_propose_move(
+    heaps: &mut MetalHeapsHandle,
+    alloc: Global,
+    piece: &HeapsPiece,
+    request: &MetalHeapsRequest,
+    name: &[u8],
+    moves: &mut bool,
+    to: &mut HeapsPiece,
+) -> u32
+    ensures proposed { result ≡ status.ok → Changes heaps.old.value heaps.new.value
+        (λ old new. IsProposed old piece.now request.now name.now moves.new to.new new) }
+    ensures no_handle { (result ≡ status.no_handle) ↔ (heaps.old.value ≡ None) }
+    ensures awaits_answer { (result ≡ status.awaits_answer)
+        ↔ IsSomeAnd heaps.old.value (λ s. IsSome s.requests.awaited) }
+    ensures invalid { (result ≡ status.invalid) ↔ IsSomeAnd heaps.old.value
+        (λ s. (s.requests.awaited ≡ None) × (IsOfPiece piece.now request.now name.now → ⊥)) }
+    ensures not_live { (result ≡ status.not_live) ↔ IsSomeAnd heaps.old.value
+        (λ s. (s.requests.awaited ≡ None) × IsOfPiece piece.now request.now name.now
+        × (IsLive s piece.now → ⊥)) }
+    ensures host_out_of_memory { result ≡ status.host_out_of_memory → IsSomeAnd heaps.old.value
+        (λ s. (s.requests.awaited ≡ None) × IsOfPiece piece.now request.now name.now
+        × IsLive s piece.now) }
+    ensures statuses { IsOneOf result (status.ok ∷ status.no_handle ∷ status.awaits_answer
+        ∷ status.invalid ∷ status.not_live ∷ status.host_out_of_memory ∷ []) }
+    ensures refused { result ≢ status.ok → (heaps.new.value ≡ heaps.old.value)
+        × (moves.new ≡ moves.old) × (to.new ≡ to.old) }
+{
+    match heaps.take(alloc) {
+        None => NO_HANDLE,
+        Some(mut kept) => {
+            let status = propose_move(&mut kept, piece, request, name, moves, to);
+            heaps.put(kept);
+            status
+        }
+    }
+}
+
+/// Renames a live piece. `AWAITS_ANSWER` where a question is open, else `INVALID` where the name isn't UTF-8, else `NOT_LIVE`, else
+/// `HOST_OUT_OF_MEMORY`.
+#[unsafe(no_mangle)]
+pub extern "C" fn pilhangko_raw_metal_heaps_rename(
+    heaps: &mut MetalHeapsHandle,
+    alloc: Global,
+    piece: &HeapsPiece,
+    name: &[u8],
+) -> u32
+    ensures renamed { result ≡ status.ok
+        → IsUtf8 name.now × Changes heaps.old.value heaps.new.value
+        (λ old new. IsRenamed old piece.now name.now new) }
+    ensures no_handle { (result ≡ status.no_handle) ↔ (heaps.old.value ≡ None) }
+    ensures awaits_answer { (result ≡ status.awaits_answer)
+        ↔ IsSomeAnd heaps.old.value (λ s. IsSome s.requests.awaited) }
+    ensures invalid { (result ≡ status.invalid)
+        ↔ IsSomeAnd heaps.old.value (λ s. (s.requests.awaited ≡ None) × (IsUtf8 name.now → ⊥)) }
+    ensures not_live { (result ≡ status.not_live) ↔ IsSomeAnd heaps.old.value
+        (λ s. (s.requests.awaited ≡ None) × IsUtf8 name.now × (IsLive s piece.now → ⊥)) }
+    ensures host_out_of_memory { result ≡ status.host_out_of_memory → IsSomeAnd heaps.old.value
+        (λ s. (s.requests.awaited ≡ None) × IsUtf8 name.now × IsLive s piece.now) }
+    ensures statuses { IsOneOf result (status.ok ∷ status.no_handle ∷ status.awaits_answer
+        ∷ status.invalid ∷ status.not_live ∷ status.host_out_of_memory ∷ []) }
+    ensures refused { result ≢ status.ok → heaps.new.value ≡ heaps.old.value }
+{
+    match heaps.take(alloc) {
+        None => NO_HANDLE,
+        Some(mut kept) => {
+            let status = rename(&mut kept, piece, name);
+            heaps.put(kept);
+            status
+        }
+    }
+}
+
+/// Whether a piece is live.
+#[unsafe(no_mangle)]
+pub extern "C" fn pilhangko_raw_metal_heaps_is_live(
+    heaps: &mut MetalHeapsHandle,
+    alloc: Global,
+    piece: &HeapsPiece,
+    answer: &mut bool,
+) -> u32
+    ensures reported { result ≡ status.ok
+        → IsSomeAnd heaps.old.value (λ s. IsTrue answer.new ↔ IsLive s piece.now) }
+    ensures no_handle { (result ≡ status.no_handle) ↔ (heaps.old.value ≡ None) }
+    ensures statuses { IsOneOf result (status.ok ∷ status.no_handle ∷ []) }
+    ensures same { heaps.new.value ≡ heaps.old.value }
+    ensures refused { result ≢ status.ok → answer.new ≡ answer.old }
+{
+    match heaps.take(alloc) {
+        None => NO_HANDLE,
+        Some(kept) => {
+            *answer = is_live(&kept, piece);
+            heaps.put(kept);
+            OK
+        }
+    }
+}
+
+/// Bounds the sum of the sizes of a memory type's blocks, in bytes, or takes the bound away. A bound below the present sum gives no block back.
+/// `AWAITS_ANSWER` where a question is open, else `NO_SUCH_TYPE`.
+#[unsafe(no_mangle)]
+pub extern "C" fn pilhangko_raw_metal_heaps_set_budget(
+    heaps: &mut MetalHeapsHandle,
+    alloc: Global,
+    memory_type: usize,
+    has_budget: bool,
+    bytes: u64,
+) -> u32
+    ensures bounded { result ≡ status.ok → Changes heaps.old.value heaps.new.value
+        (λ old new. (old.requests.awaited ≡ None)
+        × SetsBudgetIdle old.requests memory_type (number_if has_budget bytes) (Ok tt) new.requests
+        × (new.has_set ≡ old.has_set)) }
+    ensures no_handle { (result ≡ status.no_handle) ↔ (heaps.old.value ≡ None) }
+    ensures awaits_answer { (result ≡ status.awaits_answer)
+        ↔ IsSomeAnd heaps.old.value (λ s. IsSome s.requests.awaited) }
+    ensures no_such_type { (result ≡ status.no_such_type)
+        ↔ IsSomeAnd heaps.old.value
+        (λ s. (s.requests.awaited ≡ None) × (length s.requests.budgets ≤ memory_type)) }
+    ensures statuses { IsOneOf result (status.ok ∷ status.no_handle ∷ status.awaits_answer
+        ∷ status.no_such_type ∷ []) }
+    ensures refused { result ≢ status.ok → heaps.new.value ≡ heaps.old.value }
+{
+    match heaps.take(alloc) {
+        None => NO_HANDLE,
+        Some(mut kept) => {
+            let status = set_budget(&mut kept, memory_type, has_budget, bytes);
+            heaps.put(kept);
+            status
+        }
+    }
+}
+
+/// The bound of a memory type; none where it has none, or isn't there.
+#[unsafe(no_mangle)]
+pub extern "C" fn pilhangko_raw_metal_heaps_budget(
+    heaps: &mut MetalHeapsHandle,
+    alloc: Global,
+    memory_type: usize,
+    budget: &mut AllocatorBudget,
+) -> u32
+    ensures reported { result ≡ status.ok
+        → IsSomeAnd heaps.old.value
+        (λ s. budget.new ≡ budget_told (budget_at s.requests.budgets memory_type)) }
+    ensures no_handle { (result ≡ status.no_handle) ↔ (heaps.old.value ≡ None) }
+    ensures statuses { IsOneOf result (status.ok ∷ status.no_handle ∷ []) }
+    ensures same { heaps.new.value ≡ heaps.old.value }
+    ensures refused { result ≢ status.ok → budget.new ≡ budget.old }
+{
+    match heaps.take(alloc) {
+        None => NO_HANDLE,
+        Some(kept) => {
+            *budget = budget_told(kept.budget(memory_type));
+            heaps.put(kept);
+            OK
+        }
+    }
+}
+
+/// The sum of the sizes of the live blocks, in bytes. A block that is awaited isn't one.
+#[unsafe(no_mangle)]
+pub extern "C" fn pilhangko_raw_metal_heaps_capacity(
+    heaps: &mut MetalHeapsHandle,
+    alloc: Global,
+    bytes: &mut u64,
+) -> u32
+    ensures reported { result ≡ status.ok
+        → IsSomeAnd heaps.old.value (λ s. bytes.new ≡ total_capacity s.requests.slots) }
+    ensures no_handle { (result ≡ status.no_handle) ↔ (heaps.old.value ≡ None) }
+    ensures statuses { IsOneOf result (status.ok ∷ status.no_handle ∷ []) }
+    ensures same { heaps.new.value ≡ heaps.old.value }
+    ensures refused { result ≢ status.ok → bytes.new ≡ bytes.old }
+{
+    match heaps.take(alloc) {
+        None => NO_HANDLE,
+        Some(kept) => {
+            *bytes = kept.capacity();
+            heaps.put(kept);
+            OK
+        }
+    }
+}
+
+/// Ends an allocator, with the pieces that are still live and the question that is open, and leaves the handle zeroed. Heaps are the caller's
+/// to release.
+#[unsafe(no_mangle)]
+pub extern "C" fn pilhangko_raw_metal_heaps_destroy(
+    heaps: &mut MetalHeapsHandle,
+    alloc: Global,
+) -> u32
+    ensures gone { heaps.new.value ≡ None }
+    ensures no_handle { (result ≡ status.no_handle) ↔ (heaps.old.value ≡ None) }
+    ensures statuses { IsOneOf result (status.ok ∷ status.no_handle ∷ []) }
+{
+    match heaps.take(alloc) {
+        None => NO_HANDLE,
+        Some(_) => OK,
+    }
+}
