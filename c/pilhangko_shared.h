@@ -1,0 +1,122 @@
+/* What Pilhangko's bindings share: a lock, the numbers of a process's bindings, and records. Not for their users. */
+#ifndef PILHANGKO_SHARED_H
+#define PILHANGKO_SHARED_H
+#include "pilhangko.h"
+#include <stdlib.h>
+#if defined(__cplusplus)
+#include <atomic>
+#elif defined(_MSC_VER)
+#include <intrin.h>
+#endif
+#if defined(_WIN32)
+#ifndef WIN32_LEAN_AND_MEAN
+#define WIN32_LEAN_AND_MEAN
+#endif
+#include <windows.h>
+#else
+#include <pthread.h>
+#endif
+
+/* ---- the lock ---- */
+
+#if defined(_WIN32)
+typedef SRWLOCK mutex;
+static inline bool make_mutex(mutex *m) {
+    InitializeSRWLock(m);
+    return true;
+}
+static inline void lock_mutex(mutex *m) {
+    AcquireSRWLockExclusive(m);
+}
+static inline void unlock_mutex(mutex *m) {
+    ReleaseSRWLockExclusive(m);
+}
+static inline void drop_mutex(mutex *m) {
+    (void)m;
+}
+#else
+typedef pthread_mutex_t mutex;
+static inline bool make_mutex(mutex *m) {
+    return pthread_mutex_init(m, NULL) == 0;
+}
+static inline void lock_mutex(mutex *m) {
+    (void)pthread_mutex_lock(m);
+}
+static inline void unlock_mutex(mutex *m) {
+    (void)pthread_mutex_unlock(m);
+}
+static inline void drop_mutex(mutex *m) {
+    (void)pthread_mutex_destroy(m);
+}
+#endif
+
+/* 1, 2, .. for the process's bindings over one API, on whichever threads they are made. */
+static inline uint64_t next_number(void) {
+#if defined(__cplusplus)
+    static std::atomic<uint64_t> last(0);
+    return ++last;
+#elif defined(_MSC_VER)
+    static volatile __int64 last;
+    return (uint64_t)_InterlockedIncrement64(&last);
+#elif defined(__OBJC__) /* in which gcc has no _Atomic */
+    static uint64_t last;
+    return __atomic_add_fetch(&last, 1, __ATOMIC_SEQ_CST);
+#else
+    static _Atomic uint64_t last;
+    return ++last;
+#endif
+}
+
+/* A size of the settings, of which 0 is the usual one. */
+static inline uint64_t or_else(uint64_t size, uint64_t otherwise) {
+    return size ? size : otherwise;
+}
+
+/* ---- records ---- */
+
+/* Records of one size, which keep their indices. The spare ones are a list: each record begins with the index of the next spare one. */
+struct table {
+    char *records;
+    size_t record_size;
+    uint32_t count, room, spare;
+};
+#define NO_RECORD UINT32_MAX
+
+static inline void begin_table(struct table *table, size_t record_size) {
+    memset(table, 0, sizeof *table);
+    table->record_size = record_size;
+    table->spare = NO_RECORD;
+}
+
+static inline void *record_of(const struct table *table, uint32_t index) {
+    return table->records + index * table->record_size;
+}
+
+static inline void make_spare(struct table *table, uint32_t index) {
+    memset(record_of(table, index), 0, table->record_size);
+    *(uint32_t *)record_of(table, index) = table->spare;
+    table->spare = index;
+}
+
+/* Whether there is a spare record; makes one where there is none. */
+static inline bool has_spare(struct table *table) {
+    if (table->spare != NO_RECORD) return true;
+    if (table->count == table->room) {
+        const uint32_t room = table->room ? 2 * table->room : 16;
+        char *records = (char *)realloc(table->records, room * table->record_size);
+        if (!records) return false;
+        table->records = records;
+        table->room = room;
+    }
+    make_spare(table, table->count++);
+    return true;
+}
+
+/* The index of a record that was spare. */
+static inline uint32_t spare_record(struct table *table) {
+    const uint32_t index = table->spare;
+    table->spare = *(uint32_t *)record_of(table, index);
+    return index;
+}
+
+#endif
