@@ -1,86 +1,17 @@
 /* Pilhangko's Vulkan binding (include/pilhangko_vulkan.h): compile it with the program, as C11 or as C++11. It asks the driver what the
  * allocator wants to know; the allocator decides all else, and keeps what it decided. */
 #include "pilhangko_vulkan_resource.h"
-#include <inttypes.h>
-#include <stdio.h>
-#include <stdlib.h>
-#if defined(__cplusplus)
-#include <atomic>
-#elif defined(_MSC_VER)
-#include <intrin.h>
-#endif
-#if defined(_WIN32)
-#define WIN32_LEAN_AND_MEAN
-#include <windows.h>
-#else
-#include <pthread.h>
-#endif
-
-/* ---- the lock ---- */
-
-#if defined(_WIN32)
-typedef SRWLOCK mutex;
-static bool make_mutex(mutex *m) {
-    InitializeSRWLock(m);
-    return true;
-}
-static void lock_mutex(mutex *m) {
-    AcquireSRWLockExclusive(m);
-}
-static void unlock_mutex(mutex *m) {
-    ReleaseSRWLockExclusive(m);
-}
-static void drop_mutex(mutex *m) {
-    (void)m;
-}
-#else
-typedef pthread_mutex_t mutex;
-static bool make_mutex(mutex *m) {
-    return pthread_mutex_init(m, NULL) == 0;
-}
-static void lock_mutex(mutex *m) {
-    (void)pthread_mutex_lock(m);
-}
-static void unlock_mutex(mutex *m) {
-    (void)pthread_mutex_unlock(m);
-}
-static void drop_mutex(mutex *m) {
-    (void)pthread_mutex_destroy(m);
-}
-#endif
+#include "pilhangko_capture.h"
+#include "pilhangko_shared.h"
 
 /* ---- records ---- */
-
-/* Records of one size, which keep their indices. The spare ones are a list: each record begins with the index of the next spare one. */
-struct table {
-    char *records;
-    size_t record_size;
-    uint32_t count, room, spare;
-};
-#define NO_RECORD UINT32_MAX
 
 /* A live allocation. Its serial number never comes again, so one that was freed is told apart from each later one. */
 struct live {
     uint32_t next_spare;
     uint64_t serial; /* 0 of a spare record */
     pilhangko_allocator_piece piece;
-};
-
-/* Bytes that grow. */
-struct text {
-    char *bytes;
-    size_t length, room;
-};
-
-/* The capture: what stands before `new`, and what stands behind it. */
-struct capture {
-    pilhangko_vulkan_capture_end end; /* .._WHOLE while it goes on; .._NONE where there is none */
-    pilhangko_vulkan_write write;
-    void *user;
-    struct text device, calls;
-    uint64_t questions;                            /* those of the calls that were written */
-    pilhangko_budget budgets[VK_MAX_MEMORY_TYPES]; /* those that were written */
-    bool has_new_budgets;                          /* whether others may have been set since */
+    uint64_t user_data;
 };
 
 struct binding {
@@ -118,39 +49,6 @@ static bool is_power_of_two(VkDeviceSize n) {
     return n != 0 && (n & (n - 1)) == 0;
 }
 
-/* ---- tables ---- */
-
-static void *record_of(const struct table *table, uint32_t index) {
-    return table->records + index * table->record_size;
-}
-
-static void make_spare(struct table *table, uint32_t index) {
-    memset(record_of(table, index), 0, table->record_size);
-    *(uint32_t *)record_of(table, index) = table->spare;
-    table->spare = index;
-}
-
-/* Whether there is a spare record; makes one where there is none. */
-static bool has_spare(struct table *table) {
-    if (table->spare != NO_RECORD) return true;
-    if (table->count == table->room) {
-        const uint32_t room = table->room ? 2 * table->room : 16;
-        char *records = (char *)realloc(table->records, room * table->record_size);
-        if (!records) return false;
-        table->records = records;
-        table->room = room;
-    }
-    make_spare(table, table->count++);
-    return true;
-}
-
-/* The index of a record that was spare. */
-static uint32_t spare_record(struct table *table) {
-    const uint32_t index = table->spare;
-    table->spare = *(uint32_t *)record_of(table, index);
-    return index;
-}
-
 /* The record of an allocation, or NULL where it isn't live or another binding's. */
 static const struct live *find(const struct binding *b, const pilhangko_vulkan_allocation *allocation) {
     const struct live *it;
@@ -160,11 +58,6 @@ static const struct live *find(const struct binding *b, const pilhangko_vulkan_a
 }
 
 /* ---- captures ---- */
-
-#define TRACE_LIMIT 1048576 /* bytes of the longest trace that gpu_trace reads */
-#define LINE_ROOM 320       /* more than the longest line */
-#define NAME_ROOM 64        /* of a name in a trace */
-#define END_ROOM 160        /* for `new`, `destroy` and the remark why a capture ends early */
 
 /* What a call asked the driver, in the trace's terms: how many questions, and which of them it refused. */
 struct asked {
@@ -178,44 +71,8 @@ struct asked {
     VkResult driver; /* the last code of a refusal */
 };
 
-static bool makes_room(struct text *text, size_t more) {
-    size_t room = text->room ? text->room : 4096;
-    char *bytes;
-    if (text->room - text->length >= more) return true;
-    while (room - text->length < more) room *= 2;
-    bytes = (char *)realloc(text->bytes, room);
-    if (!bytes) return false;
-    text->bytes = bytes;
-    text->room = room;
-    return true;
-}
-
-/* Behind makes_room. Where nothing was ever put in, there are no bytes to copy to. */
-static void append(struct text *text, const char *bytes, size_t length) {
-    if (length > 0) memcpy(text->bytes + text->length, bytes, length);
-    text->length += length;
-}
-
-static void forget_text(struct text *text) {
-    free(text->bytes);
-    memset(text, 0, sizeof *text);
-}
-
-/* Puts the lines of one call into the capture, all or none of them. */
-static void capture_lines(struct capture *c, const char *device_lines, const char *call_lines) {
-    size_t device_length = strlen(device_lines), calls_length = strlen(call_lines);
-    if (c->device.length + c->calls.length + device_length + calls_length + END_ROOM > TRACE_LIMIT) {
-        c->end = PILHANGKO_VULKAN_CAPTURE_TOO_LONG;
-    } else if (!makes_room(&c->device, device_length) || !makes_room(&c->calls, calls_length)) {
-        c->end = PILHANGKO_VULKAN_CAPTURE_NO_HOST_MEMORY;
-    } else {
-        append(&c->device, device_lines, device_length);
-        append(&c->calls, call_lines, calls_length);
-    }
-}
-
 static bool is_captured(const struct binding *b) {
-    return b->capture.end == PILHANGKO_VULKAN_CAPTURE_WHOLE;
+    return goes_on(&b->capture);
 }
 
 /* The device's lines. Each is written by itself, so that LINE_ROOM is enough. */
@@ -237,27 +94,6 @@ static void capture_device(struct binding *b, const pilhangko_allocator_settings
     if (!is_captured(b)) forget_text(&b->capture.device); /* half a device is none */
 }
 
-/* A name as a trace can have it. */
-static const char *trace_name(const char *name, char *word) {
-    size_t length = 0;
-    for (; name && name[length] && length < NAME_ROOM; length++) {
-        unsigned char byte = (unsigned char)name[length];
-        word[length] = byte >= '!' && byte <= '~' ? (char)byte : '_';
-    }
-    if (length == 0) word[length++] = '_';
-    word[length] = 0;
-    return word;
-}
-
-static const char *trace_location(pilhangko_location location) {
-    switch (location) {
-    case PILHANGKO_LOCATION_GPU_ONLY: return "GpuOnly";
-    case PILHANGKO_LOCATION_CPU_TO_GPU: return "CpuToGpu";
-    case PILHANGKO_LOCATION_GPU_TO_CPU: return "GpuToCpu";
-    default: return "Unknown";
-    }
-}
-
 static void trace_scheme(const pilhangko_allocator_request *request, char *word, size_t room) {
     if (request->scheme == PILHANGKO_SCHEME_MANAGED) snprintf(word, room, "managed");
     else snprintf(word, room, "%s:%" PRIu64, request->scheme == PILHANGKO_SCHEME_BUFFER ? "buffer" : "image", request->resource);
@@ -266,21 +102,9 @@ static void trace_scheme(const pilhangko_allocator_request *request, char *word,
 static void trace_refusals(const struct capture *c, const struct asked *asked, char *lines, size_t room) {
     size_t length = 0;
     lines[0] = 0;
-    for (unsigned i = 0; i < asked->refusals; i++) {
-        uint64_t question = c->questions + asked->refused[i].question;
-        int written = asked->refused[i].is_null
-                          ? snprintf(lines + length, room - length, "refuse %" PRIu64 " null\n", question)
-                          : snprintf(lines + length, room - length, "refuse %" PRIu64 " %" PRId32 "\n", question, asked->refused[i].code);
-        length += (size_t)written;
-    }
-}
-
-static void capture_budget(struct binding *b, uint32_t memory_type, const pilhangko_budget *budget) {
-    char line[LINE_ROOM];
-    if (budget->exists) snprintf(line, sizeof line, "budget %" PRIu32 " %" PRIu64 "\n", memory_type, budget->bytes);
-    else snprintf(line, sizeof line, "budget %" PRIu32 " none\n", memory_type);
-    capture_lines(&b->capture, "", line);
-    b->capture.budgets[memory_type] = *budget;
+    for (unsigned i = 0; i < asked->refusals; i++)
+        length += trace_refusal(lines + length, room - length, c->questions + asked->refused[i].question, asked->refused[i].is_null,
+            asked->refused[i].code);
 }
 
 /* The bounds as they are now, where they are others than those that were written last. Bounds count where something is allocated: one that
@@ -289,10 +113,9 @@ static void capture_new_budgets(struct binding *b) {
     if (!b->capture.has_new_budgets) return;
     b->capture.has_new_budgets = false;
     for (uint32_t i = 0; i < b->properties.memoryTypeCount && is_captured(b); i++) {
-        const pilhangko_budget *last = &b->capture.budgets[i];
         pilhangko_budget now;
         if (pilhangko_allocator_budget(&b->allocator, i, &now) != PILHANGKO_OK) return;
-        if (now.exists != last->exists || now.bytes != last->bytes) capture_budget(b, i, &now);
+        capture_budget(&b->capture, i, &now);
     }
 }
 
@@ -314,54 +137,14 @@ static void capture_allocation(
     b->capture.questions += asked->questions;
 }
 
-static void capture_free(struct binding *b, uint64_t serial) {
-    char line[LINE_ROOM];
-    if (!is_captured(b)) return;
-    snprintf(line, sizeof line, "free %" PRIu64 "\n", serial);
-    capture_lines(&b->capture, "", line);
-}
-
-static void capture_rename(struct binding *b, uint64_t serial, const char *name) {
-    char line[LINE_ROOM], word[NAME_ROOM + 1];
-    if (!is_captured(b)) return;
-    snprintf(line, sizeof line, "rename %" PRIu64 " %s\n", serial, trace_name(name, word));
-    capture_lines(&b->capture, "", line);
-}
-
-static const char *remark_of(pilhangko_vulkan_capture_end end) {
-    switch (end) {
-    case PILHANGKO_VULKAN_CAPTURE_TOO_LONG: return "# the capture ends here: the next call would make the trace too long\n";
-    case PILHANGKO_VULKAN_CAPTURE_NO_HOST_MEMORY: return "# the capture ends here: no host memory for the next call\n";
-    default: return "";
-    }
-}
-
-/* Hands bytes to the caller, unless some were refused before. */
-static void write_bytes(const struct capture *c, pilhangko_vulkan_capture *told, const char *bytes, size_t length) {
-    if (told->end == PILHANGKO_VULKAN_CAPTURE_NOT_WRITTEN || length == 0) return;
-    if (c->write(c->user, bytes, length)) told->bytes += length;
-    else told->end = PILHANGKO_VULKAN_CAPTURE_NOT_WRITTEN;
-}
-
-/* Writes the capture with a last line, and forgets it. Without a device there is only the remark. */
+/* Writes the capture with a last line, and forgets it. */
 static pilhangko_vulkan_capture end_capture(struct binding *b, const char *last_line) {
-    struct capture *c = &b->capture;
-    const char *remark;
+    struct capture_told ended;
     pilhangko_vulkan_capture told;
     if (is_captured(b)) capture_new_budgets(b);
-    remark = remark_of(c->end);
-    told.end = c->end;
-    told.bytes = 0;
-    if (c->end == PILHANGKO_VULKAN_CAPTURE_NONE) return told;
-    if (c->end != PILHANGKO_VULKAN_CAPTURE_WHOLE) last_line = "";
-    write_bytes(c, &told, c->device.bytes, c->device.length);
-    write_bytes(c, &told, "new\n", c->device.length > 0 ? 4 : 0);
-    write_bytes(c, &told, c->calls.bytes, c->calls.length);
-    write_bytes(c, &told, last_line, strlen(last_line));
-    write_bytes(c, &told, remark, strlen(remark));
-    forget_text(&c->device);
-    forget_text(&c->calls);
-    c->end = PILHANGKO_VULKAN_CAPTURE_NONE;
+    ended = finish_capture(&b->capture, last_line);
+    told.end = (pilhangko_vulkan_capture_end)ended.end;
+    told.bytes = ended.bytes;
     return told;
 }
 
@@ -470,6 +253,7 @@ static void keep_allocation(
     struct live *it = (struct live *)record_of(&b->live, index);
     it->serial = ++b->last_serial;
     it->piece = *piece;
+    it->user_data = 0;
     b->live_count++;
     allocation->memory = (VkDeviceMemory)piece->piece.block;
     allocation->offset = piece->piece.offset;
@@ -521,7 +305,7 @@ static pilhangko_status free_alone(struct binding *b, const pilhangko_vulkan_all
     if (!it) return PILHANGKO_NOT_LIVE;
     status = pilhangko_allocator_free(&b->allocator, &it->piece, &back);
     if (status != PILHANGKO_OK) return status;
-    capture_free(b, it->serial);
+    capture_number(&b->capture, "free", it->serial);
     make_spare(&b->live, allocation->index);
     b->live_count--;
     if (back.exists) give_back(b, back.memory, back.mapped);
@@ -531,6 +315,48 @@ static pilhangko_status free_alone(struct binding *b, const pilhangko_vulkan_all
 static pilhangko_status free_allocation(struct binding *binding, const pilhangko_vulkan_allocation *allocation) {
     struct binding *b = enter(binding);
     const pilhangko_status status = free_alone(b, allocation);
+    leave(b);
+    return status;
+}
+
+/* A second place, as an allocation that replays alike: of its memory type alone, and for any location. */
+static void capture_second_place(
+    struct binding *b, const pilhangko_allocator_request *request, const char *name, const pilhangko_allocator_piece *to) {
+    const struct asked nothing = {0, 0, {{0, false, 0}, {0, false, 0}}, VK_SUCCESS};
+    pilhangko_allocator_request alike = *request;
+    alike.memory_type_bits = (uint32_t)1 << to->memory_type;
+    alike.location = PILHANGKO_LOCATION_UNKNOWN;
+    capture_allocation(b, &alike, name, PILHANGKO_OK, &nothing);
+}
+
+static pilhangko_status propose_alone(struct binding *b, const pilhangko_vulkan_allocation *from, const pilhangko_vulkan_request *request,
+    bool *moves, pilhangko_vulkan_allocation *to) {
+    const struct live *it = find(b, from);
+    struct live first;
+    pilhangko_allocator_request asks;
+    pilhangko_allocator_piece place;
+    pilhangko_status status;
+    if (!it) return PILHANGKO_NOT_LIVE;
+    first = *it; /* the record may lie elsewhere behind has_spare */
+    status = asks_for(b, request, &asks);
+    if (status != PILHANGKO_OK) return status;
+    if (!has_spare(&b->live)) return PILHANGKO_HOST_OUT_OF_MEMORY;
+    status = pilhangko_allocator_propose_move(&b->allocator, &first.piece, &asks, request->name, moves, &place);
+    if (status != PILHANGKO_OK || !*moves) return status;
+    capture_second_place(b, &asks, request->name, &place);
+    keep_allocation(b, &place, false, to);
+    ((struct live *)record_of(&b->live, to->index))->user_data = first.user_data;
+    return PILHANGKO_OK;
+}
+
+pilhangko_status PILHANGKO_CALL pilhangko_vulkan_propose_move(pilhangko_vulkan *vulkan, const pilhangko_vulkan_allocation *from,
+    const pilhangko_vulkan_request *request, bool *moves, pilhangko_vulkan_allocation *to) {
+    struct binding *b;
+    pilhangko_status status;
+    if (!vulkan || !from || !request || !moves || !to) return PILHANGKO_NULL_POINTER;
+    if (!vulkan->opaque) return PILHANGKO_NO_HANDLE;
+    b = enter(binding_of(vulkan));
+    status = propose_alone(b, from, request, moves, to);
     leave(b);
     return status;
 }
@@ -695,7 +521,7 @@ pilhangko_status PILHANGKO_CALL pilhangko_vulkan_rename(
     it = find(b, allocation);
     memset(&none, 0, sizeof none); /* no live piece: the name is looked at first all the same */
     status = pilhangko_allocator_rename(&b->allocator, it ? &it->piece : &none, name);
-    if (status == PILHANGKO_OK) capture_rename(b, allocation->serial, name);
+    if (status == PILHANGKO_OK) capture_rename(&b->capture, allocation->serial, name);
     leave(b);
     return status;
 }
@@ -707,6 +533,41 @@ pilhangko_status PILHANGKO_CALL pilhangko_vulkan_is_live(
     if (!vulkan->opaque) return PILHANGKO_NO_HANDLE;
     *is_live = live_piece(binding_of(vulkan), allocation, &piece);
     return PILHANGKO_OK;
+}
+
+pilhangko_status PILHANGKO_CALL pilhangko_vulkan_read_allocation(
+    const pilhangko_vulkan *vulkan, const pilhangko_vulkan_allocation *allocation, pilhangko_vulkan_allocation_told *told) {
+    struct binding *b;
+    const struct live *it;
+    pilhangko_allocator_live_block block;
+    pilhangko_status status = PILHANGKO_NOT_LIVE;
+    if (!vulkan || !allocation || !told) return PILHANGKO_NULL_POINTER;
+    if (!vulkan->opaque) return PILHANGKO_NO_HANDLE;
+    b = enter(binding_of(vulkan));
+    it = find(b, allocation);
+    if (it) status = pilhangko_allocator_block(&b->allocator, it->piece.memory_type, it->piece.piece.slot, &block);
+    if (status == PILHANGKO_OK) {
+        told->mapped = it->piece.address == 0 ? NULL : (char *)(uintptr_t)it->piece.address + it->piece.piece.offset;
+        told->user_data = it->user_data;
+        told->property_flags = b->properties.memoryTypes[it->piece.memory_type].propertyFlags;
+        told->block_size = block.size;
+        told->block_shared = block.shared;
+    }
+    leave(b);
+    return status;
+}
+
+pilhangko_status PILHANGKO_CALL pilhangko_vulkan_set_user_data(
+    pilhangko_vulkan *vulkan, const pilhangko_vulkan_allocation *allocation, uint64_t user_data) {
+    struct binding *b;
+    struct live *it;
+    if (!vulkan || !allocation) return PILHANGKO_NULL_POINTER;
+    if (!vulkan->opaque) return PILHANGKO_NO_HANDLE;
+    b = enter(binding_of(vulkan));
+    it = (struct live *)find(b, allocation);
+    if (it) it->user_data = user_data;
+    leave(b);
+    return it ? PILHANGKO_OK : PILHANGKO_NOT_LIVE;
 }
 
 pilhangko_status PILHANGKO_CALL pilhangko_vulkan_capacity(const pilhangko_vulkan *vulkan, VkDeviceSize *bytes) {
@@ -1006,24 +867,6 @@ pilhangko_status PILHANGKO_CALL pilhangko_vulkan_load(pilhangko_vulkan_functions
     return PILHANGKO_OK;
 }
 
-/* 1, 2, .. for the process's bindings, on whichever threads they are made. */
-static uint64_t next_number(void) {
-#if defined(__cplusplus)
-    static std::atomic<uint64_t> last(0);
-    return ++last;
-#elif defined(_MSC_VER)
-    static volatile __int64 last;
-    return (uint64_t)_InterlockedIncrement64(&last);
-#else
-    static _Atomic uint64_t last;
-    return ++last;
-#endif
-}
-
-static VkDeviceSize or_else(VkDeviceSize size, VkDeviceSize otherwise) {
-    return size ? size : otherwise;
-}
-
 static pilhangko_allocator_settings allocator_settings(const pilhangko_vulkan_settings *settings, VkDeviceSize granularity) {
     pilhangko_allocator_settings s;
     s.page_size = granularity;
@@ -1063,12 +906,11 @@ static void keep_settings(struct binding *b, const pilhangko_vulkan_settings *se
         b->callbacks = *settings->allocation_callbacks;
         b->over.allocation_callbacks = &b->callbacks;
     }
-    b->live.record_size = sizeof(struct live);
-    b->live.spare = NO_RECORD;
+    begin_table(&b->live, sizeof(struct live));
     b->memory_budget = settings->memory_budget;
     b->device_address = settings->buffer_device_address;
     b->is_locked_outside = settings->externally_synchronized;
-    b->capture.end = settings->capture_write ? PILHANGKO_VULKAN_CAPTURE_WHOLE : PILHANGKO_VULKAN_CAPTURE_NONE;
+    b->capture.end = settings->capture_write ? CAPTURE_WHOLE : CAPTURE_NONE;
     b->capture.write = settings->capture_write;
     b->capture.user = settings->capture_user;
 }
@@ -1119,7 +961,7 @@ pilhangko_status PILHANGKO_CALL pilhangko_vulkan_end_capture(pilhangko_vulkan *v
     if (!vulkan || !capture) return PILHANGKO_NULL_POINTER;
     if (!vulkan->opaque) return PILHANGKO_NO_HANDLE;
     b = enter(binding_of(vulkan));
-    if (b->capture.end == PILHANGKO_VULKAN_CAPTURE_NONE) status = PILHANGKO_VULKAN_NO_CAPTURE;
+    if (b->capture.end == CAPTURE_NONE) status = PILHANGKO_VULKAN_NO_CAPTURE;
     else *capture = end_capture(b, "");
     leave(b);
     return status;

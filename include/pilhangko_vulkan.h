@@ -195,6 +195,45 @@ PILHANGKO_NODISCARD PILHANGKO_API pilhangko_vulkan_result PILHANGKO_CALL pilhang
 PILHANGKO_NODISCARD PILHANGKO_API pilhangko_vulkan_result PILHANGKO_CALL pilhangko_vulkan_copy_from(const pilhangko_vulkan *vulkan,
     const pilhangko_vulkan_allocation *allocation, VkDeviceSize offset, void *to, size_t size);
 
+/* Moves. A second place for a live allocation, in a block that is there: the one that this request, which it was made for, would get as a new
+ * allocation, if that lies in a block that is looked at before its own. *moves says whether there is one, and *to is the allocation there, with
+ * the first one's word; nothing is asked of the driver. Then both are live: bind a new buffer or image at the second
+ * (pilhangko_vulkan_create_aliasing_buffer), copy, and destroy the old one with the first once the device has finished, which ends the move; or
+ * free the second, which abandons it. Where *moves is false the allocation stays where it is, and *to as it was. An allocation for one buffer or
+ * image alone stays (INVALID). In a capture a second place is an allocation of its memory type.
+ * NULL_POINTER. NO_HANDLE. NOT_LIVE. INVALID: a null buffer or image that counts. HOST_OUT_OF_MEMORY: the binding's own. INVALID: the request,
+ * its name, or a size that isn't the allocation's. HOST_OUT_OF_MEMORY. */
+PILHANGKO_NODISCARD PILHANGKO_API pilhangko_status PILHANGKO_CALL pilhangko_vulkan_propose_move(pilhangko_vulkan *vulkan,
+    const pilhangko_vulkan_allocation *from, const pilhangko_vulkan_request *request, bool *moves, pilhangko_vulkan_allocation *to);
+
+/* Moves a mapped allocation at once: where there is a second place, its bytes are copied there (those that the device wrote are invalidated
+ * before, and all are flushed behind), the first place is freed, and *allocation is the second. *moved says whether. The device doesn't use
+ * the bytes meanwhile, and no other thread does anything with the allocation. (c/pilhangko_vulkan_moves.c)
+ * NULL_POINTER. NO_HANDLE. NOT_LIVE. NOT_MAPPED. The causes of pilhangko_vulkan_propose_move. CALL_FAILED: the driver refused to invalidate or to
+ * flush; the allocation stays where it was. */
+PILHANGKO_NODISCARD PILHANGKO_API pilhangko_vulkan_result PILHANGKO_CALL pilhangko_vulkan_move_mapped(pilhangko_vulkan *vulkan,
+    pilhangko_vulkan_allocation *allocation, const pilhangko_vulkan_request *request, bool *moved);
+
+/* An allocation that may move, and the request that it was made by. */
+typedef struct pilhangko_vulkan_movable {
+    pilhangko_vulkan_allocation allocation;
+    pilhangko_vulkan_request request;
+} pilhangko_vulkan_movable;
+
+/* A move that is open: of which allocation of the table, and its second place. */
+typedef struct pilhangko_vulkan_move {
+    size_t index;
+    pilhangko_vulkan_allocation to;
+} pilhangko_vulkan_move;
+
+/* Proposes the moves of a frame: goes over the table, allocations in the lowest slot first, so that low blocks empty, and proposes moves that
+ * sum up to so many bytes at most, and that moves has room for. *proposed says how many; they are as those of pilhangko_vulkan_propose_move,
+ * and each ends by a free. An allocation with an open move isn't put into the table again. Where a proposal fails, those before it are
+ * abandoned, and what moves holds doesn't count. (c/pilhangko_vulkan_moves.c)
+ * NULL_POINTER. NO_HANDLE. The causes of pilhangko_vulkan_propose_move. */
+PILHANGKO_NODISCARD PILHANGKO_API pilhangko_status PILHANGKO_CALL pilhangko_vulkan_propose_moves(pilhangko_vulkan *vulkan,
+    const pilhangko_vulkan_movable *movables, size_t count, VkDeviceSize bytes, pilhangko_vulkan_move *moves, size_t room, size_t *proposed);
+
 /* Renames a live allocation.
  * NULL_POINTER. NO_HANDLE. INVALID: the name. NOT_LIVE. HOST_OUT_OF_MEMORY. */
 PILHANGKO_NODISCARD PILHANGKO_API pilhangko_status PILHANGKO_CALL pilhangko_vulkan_rename(
@@ -204,6 +243,25 @@ PILHANGKO_NODISCARD PILHANGKO_API pilhangko_status PILHANGKO_CALL pilhangko_vulk
  * NULL_POINTER. NO_HANDLE. */
 PILHANGKO_NODISCARD PILHANGKO_API pilhangko_status PILHANGKO_CALL pilhangko_vulkan_is_live(
     const pilhangko_vulkan *vulkan, const pilhangko_vulkan_allocation *allocation, bool *is_live);
+
+/* What a live allocation is. */
+typedef struct pilhangko_vulkan_allocation_told {
+    void *mapped;                         /* where the host sees it; NULL where it can't */
+    uint64_t user_data;                   /* the caller's word; 0 until it is set */
+    VkMemoryPropertyFlags property_flags; /* those of its memory type */
+    VkDeviceSize block_size;              /* the size of its memory */
+    bool block_shared;                    /* whether other allocations may lie in that memory */
+} pilhangko_vulkan_allocation_told;
+
+/* What a live allocation is.
+ * NULL_POINTER. NO_HANDLE. NOT_LIVE. */
+PILHANGKO_NODISCARD PILHANGKO_API pilhangko_status PILHANGKO_CALL pilhangko_vulkan_read_allocation(
+    const pilhangko_vulkan *vulkan, const pilhangko_vulkan_allocation *allocation, pilhangko_vulkan_allocation_told *told);
+
+/* Keeps a word of the caller's with a live allocation: a pointer, an index ..
+ * NULL_POINTER. NO_HANDLE. NOT_LIVE. */
+PILHANGKO_NODISCARD PILHANGKO_API pilhangko_status PILHANGKO_CALL pilhangko_vulkan_set_user_data(
+    pilhangko_vulkan *vulkan, const pilhangko_vulkan_allocation *allocation, uint64_t user_data);
 
 /* The sum of the sizes of the blocks.
  * NULL_POINTER. NO_HANDLE. */
@@ -234,6 +292,18 @@ PILHANGKO_NODISCARD PILHANGKO_API pilhangko_status PILHANGKO_CALL pilhangko_vulk
     pilhangko_vulkan *vulkan, VkBuffer buffer, const pilhangko_vulkan_allocation *allocation);
 PILHANGKO_NODISCARD PILHANGKO_API pilhangko_status PILHANGKO_CALL pilhangko_vulkan_destroy_image(
     pilhangko_vulkan *vulkan, VkImage image, const pilhangko_vulkan_allocation *allocation);
+
+/* Makes a buffer or an image and binds it at an offset of a live allocation, whose bytes it has in common with all else that is bound there:
+ * only one of them holds what it should at a time, and barriers go between their uses. The allocation is the caller's still; the buffer or the
+ * image is destroyed before it, by vkDestroyBuffer or vkDestroyImage. An allocation for buffers and images both has kind NON_LINEAR, and size
+ * and alignment are multiples of bufferImageGranularity (pilhangko_plan_memory). (c/pilhangko_vulkan_alias.c)
+ * NULL_POINTER. NO_HANDLE. NOT_LIVE. INVALID: a sparse or disjoint one. CALL_FAILED: vkCreate... And by what the driver needs for it: INVALID:
+ * memory of its own, another memory type, or another alignment of its place in the memory. OUT_OF_RANGE: it runs past the allocation's end.
+ * CALL_FAILED: vkBind... What was made is undone where something fails. */
+PILHANGKO_NODISCARD PILHANGKO_API pilhangko_vulkan_result PILHANGKO_CALL pilhangko_vulkan_create_aliasing_buffer(const pilhangko_vulkan *vulkan,
+    const pilhangko_vulkan_allocation *allocation, VkDeviceSize offset, const VkBufferCreateInfo *info, VkBuffer *buffer);
+PILHANGKO_NODISCARD PILHANGKO_API pilhangko_vulkan_result PILHANGKO_CALL pilhangko_vulkan_create_aliasing_image(const pilhangko_vulkan *vulkan,
+    const pilhangko_vulkan_allocation *allocation, VkDeviceSize offset, const VkImageCreateInfo *info, VkImage *image);
 
 /* ---- Rings ---- */
 

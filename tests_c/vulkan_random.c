@@ -27,7 +27,7 @@ static pilhangko_vulkan_allocation stale[STALE];
 static uint64_t last_serial;
 static FILE *replies;                                    /* what the captured calls came to, or NULL */
 static pilhangko_budget captured_budgets[ACCOUNT_TYPES]; /* as the capture has them by now */
-static unsigned allocated, made, refused, second_attempts, freed, not_live, renamed, flushed, shared_after_all;
+static unsigned allocated, made, refused, second_attempts, freed, not_live, renamed, flushed, shared_after_all, moved, stayed;
 
 static const char *const names[] = {NULL, "", "vertices", "a name that takes host memory of its own", "\xc3\xa9t\xc3\xa9 2",
     "a name of more than sixty-four bytes, which no trace can have as it stands here"};
@@ -362,6 +362,51 @@ static void renames(void) {
     renamed += is_live;
 }
 
+/* A second place for an allocation, which then is live beside it: the account's in a slot above. */
+static void moves_one(void) {
+    const pilhangko_vulkan_allocation a = some_allocation();
+    const size_t i = live_at(&a);
+    pilhangko_vulkan_request request;
+    struct live it;
+    bool moves = true;
+    memset(&request, 0, sizeof request);
+    memset(&it, 0, sizeof it);
+    it.kind = i < live_count ? live[i].kind : PILHANGKO_KIND_LINEAR;
+    request.requirements.size = random_below(20) ? a.size : a.size + 1;
+    request.requirements.alignment = i < live_count ? live[i].alignment : 1;
+    request.requirements.memoryTypeBits = random_below(2) ? 31 : 8;
+    request.location = 1 + (uint32_t)random_below(4);
+    request.kind = it.kind;
+    request.scheme = random_below(20) ? PILHANGKO_SCHEME_MANAGED : PILHANGKO_SCHEME_BUFFER;
+    request.buffer = (VkBuffer)(uint64_t)9;
+    request.name = SOME_NAME;
+    it.alignment = raised(request.requirements.alignment, request.requirements.memoryTypeBits);
+    const uint64_t first = fake.questions;
+    const pilhangko_memory_request asks = {a.size, it.alignment, it.kind, false};
+    const bool is_of_it = request.requirements.size == a.size && request.scheme == PILHANGKO_SCHEME_MANAGED;
+    const pilhangko_status status = i == live_count ? PILHANGKO_NOT_LIVE : is_of_it ? PILHANGKO_OK : PILHANGKO_INVALID;
+    if (status == PILHANGKO_OK) account.type = a.piece.memory_type;
+    const bool wanted = status == PILHANGKO_OK &&
+                        type_place(&account.types[account.type], a.piece.piece.slot + 1, &asks, "", &account.placed.piece);
+    IS(pilhangko_vulkan_propose_move(&vulkan, &a, &request, &moves, &it.allocation), status);
+    CHECK(fake.questions == first);
+    if (status != PILHANGKO_OK) {
+        CHECK(moves && it.allocation.serial == 0);
+        return;
+    }
+    CHECK(moves == wanted);
+    stayed += !moves;
+    if (!moves) {
+        CHECK(it.allocation.serial == 0);
+        return;
+    }
+    meets(&it.allocation);
+    CHECK(!it.allocation.dedicated);
+    reply_allocation(&it.allocation.piece, false);
+    keeps(&it);
+    moved++;
+}
+
 /* A range within the allocation, at times one that isn't. The driver checks that it is whole atoms; it has to cover the bytes. */
 static void flushes(void) {
     const pilhangko_vulkan_allocation a = some_allocation();
@@ -455,6 +500,8 @@ static void step(void) {
         else if (what < 985) looks();
         else if (what < 998) sets_budget();
         else updates_budgets();
+    } else if (live_count < LIVE && what >= 820) {
+        moves_one();
     } else if (live_count < LIVE && what < (live_count < target ? 700 : 180)) {
         if (what % 3) allocates();
         else creates();
@@ -530,10 +577,10 @@ int main(int count, char **words) {
         ends();
     }
     printf("200000 calls: %u allocated, %u made, %u refused, %u at the second attempt, %u shared after all, %u freed, %u not live, "
-           "%u renamed, %u flushed\n",
-        allocated, made, refused, second_attempts, shared_after_all, freed, not_live, renamed, flushed);
+           "%u renamed, %u flushed, %u moved, %u stayed\n",
+        allocated, made, refused, second_attempts, shared_after_all, freed, not_live, renamed, flushed, moved, stayed);
     CHECK(allocated > 10000 && made > 5000 && refused > 10000 && second_attempts > 300 && freed > 15000 && not_live > 1000);
-    CHECK(renamed > 1000 && flushed > 100 && shared_after_all > 20);
+    CHECK(renamed > 1000 && flushed > 100 && shared_after_all > 20 && moved > 500 && stayed > 500);
     if (count == 3) captured_run(words[1], words[2]);
     return 0;
 }
