@@ -1,7 +1,7 @@
 //! Why a call is refused.
 
-use crate::raw;
 use crate::vulkan::Allocation;
+use crate::{d3d12, raw};
 use std::collections::TryReserveError;
 use std::error::Error;
 use std::fmt;
@@ -14,7 +14,7 @@ pub type Result<V, E = AllocationError> = std::result::Result<V, E>;
 pub struct Fault {
     /// The words.
     pub text: &'static str,
-    /// The code that the driver returned (`VkResult`), where it returned one.
+    /// The code that the driver returned (`VkResult`, `HRESULT`), where it returned one.
     pub code: Option<i64>,
 }
 
@@ -109,6 +109,20 @@ impl From<(AllocationError, Allocation)> for AllocationError {
     }
 }
 
+/// What `d3d12::Allocator::free` refuses, as above.
+impl From<(AllocationError, d3d12::Allocation)> for AllocationError {
+    fn from((error, _): (AllocationError, d3d12::Allocation)) -> Self {
+        error
+    }
+}
+
+/// What `d3d12::Allocator::free_resource` refuses, as above.
+impl From<(AllocationError, d3d12::Resource)> for AllocationError {
+    fn from((error, _): (AllocationError, d3d12::Resource)) -> Self {
+        error
+    }
+}
+
 impl From<TryReserveError> for AllocationError {
     fn from(_: TryReserveError) -> Self {
         AllocationError::HostOutOfMemory
@@ -143,6 +157,9 @@ pub(crate) fn check(status: u32) -> Result<()> {
         raw::INVALID => Err(AllocationError::InvalidAllocationCreateDesc),
         raw::INVALID_DEVICE => Err(invalid_device("buffer image granularity is not a power of two.")),
         raw::NOT_LIVE => Err(internal("Allocation does not belong to this allocator.")),
+        raw::LAYOUT_NEEDS_DEVICE10 => Err(AllocationError::BarrierLayoutNeedsDevice10),
+        raw::FORMATS_NEED_LAYOUT => Err(AllocationError::CastableFormatsRequiresEnhancedBarriers),
+        raw::FORMATS_NEED_DEVICE12 => Err(AllocationError::CastableFormatsRequiresAtLeastDevice12),
         raw::HOST_OUT_OF_MEMORY => Err(AllocationError::HostOutOfMemory),
         raw::BUDGET_EXCEEDED => Err(AllocationError::BudgetExceeded),
         raw::NO_SUCH_TYPE => Err(internal("No such memory type.")),

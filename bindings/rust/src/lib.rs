@@ -1,7 +1,7 @@
 //! Pilhangko: GPU memory allocators whose code is proved, from Rust.
 //!
 //! [`vulkan`] has the allocator under the names of the crate gpu-allocator: it asks the driver for large blocks, cuts them up by best fit,
-//! and gives them back. [`virtual_block`] and [`memory_type`] are what it stands on, for any graphics API: one block of numbers, and the
+//! and gives them back; [`d3d12`] has the one of DirectX 12. [`virtual_block`] and [`memory_type`] are what it stands on, for any graphics API: one block of numbers, and the
 //! blocks of one memory type. [`ring`] is a block of numbers for uploads, freed a frame at a time; [`vulkan::UploadRing`] has memory behind it.
 //! [`plan()`] lets transient resources of a frame share memory.
 //!
@@ -18,6 +18,7 @@
 #[cfg(test)]
 extern crate self as pilhangko;
 
+pub mod d3d12;
 mod error;
 mod heap;
 pub mod memory_type;

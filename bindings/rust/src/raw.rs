@@ -1,5 +1,5 @@
 //! The archive's symbols and what crosses to them, as include/pilhangko.h declares them. The types that own a handle (`VirtualBlock`,
-//! `Ring`, `MemoryType`, the Vulkan allocator) are the only callers.
+//! `Ring`, `MemoryType`, the Vulkan and the DirectX 12 allocator) are the only callers.
 
 use std::cell::UnsafeCell;
 use std::ffi::c_void;
@@ -12,6 +12,9 @@ pub(crate) const NO_MEMORY_TYPE: u32 = 3;
 pub(crate) const INVALID: u32 = 4;
 pub(crate) const INVALID_DEVICE: u32 = 5;
 pub(crate) const NOT_LIVE: u32 = 6;
+pub(crate) const LAYOUT_NEEDS_DEVICE10: u32 = 7;
+pub(crate) const FORMATS_NEED_LAYOUT: u32 = 8;
+pub(crate) const FORMATS_NEED_DEVICE12: u32 = 9;
 pub(crate) const HOST_OUT_OF_MEMORY: u32 = 10;
 pub(crate) const BUDGET_EXCEEDED: u32 = 11;
 pub(crate) const DRIVER_REFUSED: u32 = 12;
@@ -31,6 +34,17 @@ pub(crate) const LOCATION_GPU_TO_CPU: u32 = 4;
 pub(crate) const SCHEME_MANAGED: u32 = 1;
 pub(crate) const SCHEME_BUFFER: u32 = 2;
 pub(crate) const SCHEME_IMAGE: u32 = 3;
+
+pub(crate) const CATEGORY_BUFFER: u32 = 1;
+pub(crate) const CATEGORY_RTV_DSV_TEXTURE: u32 = 2;
+pub(crate) const CATEGORY_OTHER_TEXTURE: u32 = 3;
+
+pub(crate) const DEVICE: u32 = 0;
+pub(crate) const DEVICE10: u32 = 10;
+pub(crate) const DEVICE12: u32 = 12;
+
+pub(crate) const CALL_IN_STATE: u32 = 1;
+pub(crate) const CALL_IN_LAYOUT_WITH_FORMATS: u32 = 3;
 
 pub(crate) const PLAN_ORDER_SIZE: u32 = 1;
 pub(crate) const PLAN_ORDER_AREA: u32 = 2;
@@ -286,6 +300,69 @@ pub(crate) struct TypeStatistics {
     pub(crate) longest_gap: u64,
 }
 
+#[repr(C)]
+#[derive(Debug)]
+pub(crate) struct HeapsSettings {
+    pub(crate) heap_tier: u32,
+    pub(crate) device_block_size: u64,
+    pub(crate) largest_device_block_size: u64,
+    pub(crate) host_block_size: u64,
+    pub(crate) largest_host_block_size: u64,
+}
+
+#[repr(C)]
+#[derive(Debug)]
+pub(crate) struct HeapsRequest {
+    pub(crate) size: u64,
+    pub(crate) alignment: u64,
+    pub(crate) location: u32,
+    pub(crate) category: u32,
+}
+
+#[repr(C)]
+#[derive(Clone, Copy, Debug, Default)]
+pub(crate) struct HeapsPiece {
+    pub(crate) memory_type: usize,
+    pub(crate) piece: MemoryPiece,
+}
+
+#[repr(C)]
+#[derive(Clone, Copy, Debug, Default)]
+pub(crate) struct HeapsQuestion {
+    pub(crate) memory_type: usize,
+    pub(crate) size: u64,
+    pub(crate) alignment: u64,
+    pub(crate) heap_type: u32,
+    pub(crate) cpu_page_property: u32,
+    pub(crate) memory_pool: u32,
+    pub(crate) flags: u32,
+    pub(crate) dedicated: bool,
+}
+
+#[repr(C)]
+#[derive(Debug, Default)]
+pub(crate) struct HeapsProgress {
+    pub(crate) kind: u32,
+    pub(crate) status: u32,
+    pub(crate) piece: HeapsPiece,
+    pub(crate) question: HeapsQuestion,
+}
+
+#[repr(C)]
+#[derive(Clone, Copy, Debug, Default)]
+pub(crate) struct HeapsCommitted {
+    pub(crate) memory_type: usize,
+    pub(crate) resource: u64,
+    pub(crate) size: u64,
+}
+
+#[repr(C)]
+#[derive(Debug, Default)]
+pub(crate) struct HeapsCommittedStatistics {
+    pub(crate) count: usize,
+    pub(crate) bytes: u64,
+}
+
 /// A memory type of a device, laid out as `VkMemoryType` is.
 pub(crate) type DeviceMemoryType = crate::vulkan::MemoryType;
 
@@ -487,6 +564,15 @@ extern "C" {
         piece: *const AllocatorPiece,
         back: *mut AllocatorMemory,
     ) -> u32;
+    pub(crate) fn pilhangko_raw_allocator_propose_move(
+        allocator: *mut Handle,
+        piece: *const AllocatorPiece,
+        request: *const AllocatorRequest,
+        name: *const u8,
+        name_length: usize,
+        moves: *mut bool,
+        to: *mut AllocatorPiece,
+    ) -> u32;
     pub(crate) fn pilhangko_raw_allocator_rename(
         allocator: *mut Handle,
         piece: *const AllocatorPiece,
@@ -568,6 +654,110 @@ extern "C" {
         length: *mut usize,
     ) -> u32;
     pub(crate) fn pilhangko_raw_allocator_destroy(allocator: *mut Handle) -> u32;
+
+    pub(crate) fn pilhangko_raw_heaps_create(heaps: *mut Handle, settings: *const HeapsSettings) -> u32;
+    pub(crate) fn pilhangko_raw_heaps_begin(
+        heaps: *mut Handle,
+        request: *const HeapsRequest,
+        name: *const u8,
+        name_length: usize,
+        progress: *mut HeapsProgress,
+    ) -> u32;
+    pub(crate) fn pilhangko_raw_heaps_granted(heaps: *mut Handle, heap: u64, piece: *mut HeapsPiece) -> u32;
+    pub(crate) fn pilhangko_raw_heaps_refused(heaps: *mut Handle, code: i32, progress: *mut HeapsProgress) -> u32;
+    pub(crate) fn pilhangko_raw_heaps_free(heaps: *mut Handle, piece: *const HeapsPiece, back: *mut MemoryBlock)
+        -> u32;
+    pub(crate) fn pilhangko_raw_heaps_propose_move(
+        heaps: *mut Handle,
+        piece: *const HeapsPiece,
+        request: *const HeapsRequest,
+        name: *const u8,
+        name_length: usize,
+        moves: *mut bool,
+        to: *mut HeapsPiece,
+    ) -> u32;
+    pub(crate) fn pilhangko_raw_heaps_rename(
+        heaps: *mut Handle,
+        piece: *const HeapsPiece,
+        name: *const u8,
+        name_length: usize,
+    ) -> u32;
+    pub(crate) fn pilhangko_raw_heaps_is_live(heaps: *mut Handle, piece: *const HeapsPiece, is_live: *mut bool) -> u32;
+    pub(crate) fn pilhangko_raw_heaps_begin_committed(
+        heaps: *mut Handle,
+        size: u64,
+        location: u32,
+        category: u32,
+    ) -> u32;
+    pub(crate) fn pilhangko_raw_heaps_made(heaps: *mut Handle, resource: u64, committed: *mut HeapsCommitted) -> u32;
+    pub(crate) fn pilhangko_raw_heaps_not_made(heaps: *mut Handle) -> u32;
+    pub(crate) fn pilhangko_raw_heaps_forget_committed(heaps: *mut Handle, committed: *const HeapsCommitted) -> u32;
+    pub(crate) fn pilhangko_raw_heaps_committed_of(
+        heaps: *mut Handle,
+        memory_type: usize,
+        statistics: *mut HeapsCommittedStatistics,
+    ) -> u32;
+    pub(crate) fn pilhangko_raw_heaps_choose_call(
+        version: u32,
+        in_layout: bool,
+        has_formats: bool,
+        call: *mut u32,
+    ) -> u32;
+    pub(crate) fn pilhangko_raw_heaps_set_budget(
+        heaps: *mut Handle,
+        memory_type: usize,
+        has_budget: bool,
+        bytes: u64,
+    ) -> u32;
+    pub(crate) fn pilhangko_raw_heaps_budget(heaps: *mut Handle, memory_type: usize, budget: *mut Budget) -> u32;
+    pub(crate) fn pilhangko_raw_heaps_capacity(heaps: *mut Handle, bytes: *mut u64) -> u32;
+    pub(crate) fn pilhangko_raw_heaps_type_statistics(
+        heaps: *mut Handle,
+        memory_type: usize,
+        statistics: *mut TypeStatistics,
+    ) -> u32;
+    pub(crate) fn pilhangko_raw_heaps_block(
+        heaps: *mut Handle,
+        memory_type: usize,
+        slot: usize,
+        block: *mut MemoryBlock,
+    ) -> u32;
+    pub(crate) fn pilhangko_raw_heaps_block_statistics(
+        heaps: *mut Handle,
+        memory_type: usize,
+        slot: usize,
+        statistics: *mut MemoryBlockStatistics,
+    ) -> u32;
+    pub(crate) fn pilhangko_raw_heaps_pieces(
+        heaps: *mut Handle,
+        memory_type: usize,
+        slot: usize,
+        from: u64,
+        pieces: *mut PieceView,
+        room: usize,
+        count: *mut usize,
+    ) -> u32;
+    pub(crate) fn pilhangko_raw_heaps_piece_names(
+        heaps: *mut Handle,
+        memory_type: usize,
+        slot: usize,
+        from: u64,
+        lengths: *mut usize,
+        room: usize,
+        names: *mut u8,
+        names_room: usize,
+        count: *mut usize,
+    ) -> u32;
+    pub(crate) fn pilhangko_raw_heaps_report(heaps: *mut Handle, text: *mut u8, room: usize, length: *mut usize)
+        -> u32;
+    pub(crate) fn pilhangko_raw_heaps_leak(
+        heaps: *mut Handle,
+        index: usize,
+        text: *mut u8,
+        room: usize,
+        length: *mut usize,
+    ) -> u32;
+    pub(crate) fn pilhangko_raw_heaps_destroy(heaps: *mut Handle) -> u32;
 
     pub(crate) fn pilhangko_raw_plan(
         resources: *const PlanResource,

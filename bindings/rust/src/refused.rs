@@ -2,12 +2,18 @@
 
 #[path = "../tests/common/mod.rs"]
 pub(crate) mod common;
+#[cfg(target_arch = "x86_64")]
+#[path = "../tests/fake_d3d12/mod.rs"]
+mod fake_d3d12;
 
 use crate::heap::refusing::{has_refused, held, refuse};
 use crate::memory_type::{MemoryRequest, Prepared};
 use crate::plan::{MemoryNeeds, Resource};
 use crate::virtual_block::VirtualRequest;
-use crate::vulkan::{AllocationCreateDesc, AllocationScheme, Allocator, AllocatorCreateDesc, MemoryRequirements};
+use crate::vulkan::{
+    AllocationCreateDesc, AllocationScheme, Allocator, AllocatorCreateDesc, MemoryRequirements, TransientCreateDesc,
+    TransientResource, UploadRing,
+};
 use crate::{plan, AllocationError, Kind, MemoryLocation, MemoryType, Result, Ring, VirtualBlock};
 use common::FakeDriver;
 
@@ -163,5 +169,108 @@ fn of_a_plan() {
     assert!(refusals > 0);
     assert_eq!(sets, [0, 1, 2]);
     drop((planned, reused));
+    assert_eq!(held(), 0);
+}
+
+#[test]
+fn of_an_upload_ring() {
+    let driver = FakeDriver::new(&[(7, 0)], &[1 << 30], 64);
+    let mut allocator = Allocator::new(&AllocatorCreateDesc::new(driver.device())).unwrap();
+    let request = AllocationCreateDesc {
+        name: "uploads",
+        requirements: MemoryRequirements { size: 100, alignment: 4, memory_type_bits: 1 },
+        location: MemoryLocation::CpuToGpu,
+        linear: true,
+        allocation_scheme: AllocationScheme::GpuAllocatorManaged,
+    };
+    let mut given = Some(allocator.allocate(&request).unwrap());
+    let over = |it: &mut Option<_>| {
+        UploadRing::new(it.take().expect("it came back"), 2).map_err(|(error, allocation)| {
+            *it = Some(allocation);
+            error
+        })
+    };
+    let came_back = |it: &Option<_>| assert!(it.as_ref().is_some_and(|it| allocator.is_live(it)));
+    let (mut ring, refusals) = in_turn(&mut given, over, came_back);
+    assert!(refusals > 0);
+    refuse(1); // no later call needs any
+    assert_eq!(ring.allocate(40, 1).map(|upload| upload.offset), Ok(0));
+    ring.flush(&allocator).unwrap();
+    let frame = ring.end_frame().unwrap();
+    assert!(ring.retire(frame));
+    assert_eq!(ring.statistics().taken, 0);
+    assert!(!has_refused());
+    refuse(0);
+    allocator.free(ring.into_allocation()).unwrap();
+    drop(allocator);
+    driver.assert_left_empty();
+    assert_eq!(held(), 0);
+}
+
+#[test]
+fn of_transient_resources() {
+    let driver = FakeDriver::new(&[(1, 0), (1, 0)], &[1 << 30], 64);
+    let mut allocator = Allocator::new(&AllocatorCreateDesc::new(driver.device())).unwrap();
+    let buffer = |memory_type_bits, pass| TransientResource {
+        requirements: MemoryRequirements { size: 100, alignment: 4, memory_type_bits },
+        linear: true,
+        first_pass: pass,
+        last_pass: pass,
+    };
+    let resources = [buffer(1, 0), buffer(2, 0), buffer(1, 1)];
+    let desc = TransientCreateDesc { name: NAME, resources: &resources, location: MemoryLocation::GpuOnly };
+    let nothing_left = |it: &Allocator| assert_eq!(it.statistics().pieces, 0);
+    let (made, refusals) = in_turn(&mut allocator, |it| it.allocate_transient(&desc), nothing_left);
+    assert!(refusals > 0);
+    assert_eq!(allocator.statistics().pieces, 2); // two sets
+    let (reused, refusals) = in_turn(&mut (), |()| made.reuses(2), |()| ());
+    assert!(refusals > 0);
+    assert_eq!(reused, [0]);
+    refuse(1); // free_transient needs none
+    allocator.free_transient(made).unwrap();
+    assert!(!has_refused());
+    refuse(0);
+    drop(allocator);
+    driver.assert_left_empty();
+    assert_eq!(held(), 0);
+}
+
+#[cfg(target_arch = "x86_64")]
+#[test]
+fn of_the_d3d12_allocator() {
+    use crate::d3d12::{self, ResourceCategory, ResourceDesc, ResourceStateOrBarrierLayout, ResourceType};
+    let device = fake_d3d12::FakeDevice::new(2, 0);
+    let desc = d3d12::AllocatorCreateDesc::new(device.version());
+    let (mut allocator, refusals) = in_turn(&mut (), |()| d3d12::Allocator::new(&desc), |()| ());
+    assert!(refusals > 0);
+    let (buffer, properties) = (ResourceDesc::buffer(100), d3d12::HeapProperties::default());
+    let own = ResourceType::Committed { heap_properties: &properties, heap_flags: 0 };
+    let mut live = Vec::new();
+    for resource_type in [&ResourceType::Placed, &own].into_iter().cycle().take(40) {
+        let wanted = d3d12::ResourceCreateDesc {
+            name: NAME,
+            memory_location: MemoryLocation::GpuOnly,
+            resource_category: ResourceCategory::Buffer,
+            resource_desc: &buffer,
+            castable_formats: &[],
+            clear_value: None,
+            initial_state_or_layout: ResourceStateOrBarrierLayout::ResourceState(0),
+            resource_type,
+        };
+        let (capacity, questions) = (allocator.capacity(), device.state().questions);
+        let unchanged = |it: &d3d12::Allocator| {
+            assert_eq!((it.capacity(), device.state().questions), (capacity, questions));
+        };
+        let (it, _) = in_turn(&mut allocator, |it| it.create_resource(&wanted), unchanged);
+        live.push(it);
+    }
+    let count = live.len();
+    refuse(1); // free_resource needs none
+    live.into_iter().for_each(|it| allocator.free_resource(it).unwrap());
+    assert!(!has_refused() && count == 40);
+    refuse(0);
+    drop(allocator);
+    drop(desc);
+    device.assert_left_empty();
     assert_eq!(held(), 0);
 }

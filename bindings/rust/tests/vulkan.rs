@@ -95,6 +95,122 @@ fn pieces_lie_in_blocks_and_blocks_come_and_go() {
     driver.assert_left_empty();
 }
 
+/// Blocks of 4 MB of one memory type, each with room for two pieces of 2 MB.
+#[test]
+fn a_piece_moves_to_a_higher_block_and_back() {
+    let driver = FakeDriver::new(&[(7, 0)], &[1024 * MB], 64);
+    let sizes = AllocationSizes::new(4 * MB, 4 * MB);
+    let desc = AllocatorCreateDesc { allocation_sizes: sizes, ..AllocatorCreateDesc::new(driver.device()) };
+    let mut a = Allocator::new(&desc).unwrap();
+    let wanted = request(2 * MB, MemoryLocation::CpuToGpu);
+    let [first, second, third, fourth] = [(); 4].map(|()| a.allocate(&wanted).unwrap());
+    assert_eq!((place(&first).1, place(&third).1), (0, 1));
+    assert!(a.propose_move(&first, &wanted).unwrap().is_none()); // no block has a gap
+    a.free(third).unwrap();
+    let to = a.propose_move(&first, &AllocationCreateDesc { name: "moved", ..wanted.clone() }).unwrap().unwrap();
+    assert_eq!(place(&to), (0, 1, 0, 2 * MB, 2, false, true));
+    assert_eq!((memory(&to), to.name()), (memory(&fourth), Some("moved")));
+    assert!(a.is_live(&first) && a.is_live(&to));
+    a.free(to).unwrap(); // abandoned
+    let to = a.propose_move(&first, &wanted).unwrap().unwrap();
+    a.free(first).unwrap(); // done
+    assert!(a.propose_move(&to, &wanted).unwrap().is_none()); // nothing lies above it
+    a.free(fourth).unwrap();
+    let again = a.propose_move(&second, &wanted).unwrap().unwrap();
+    a.free(second).unwrap(); // the lower block is empty, and goes
+    assert_eq!((a.capacity(), driver.state().held.len()), (4 * MB, 1));
+    let invalid = Err(AllocationError::InvalidAllocationCreateDesc);
+    let alone = AllocationScheme::DedicatedBuffer(Buffer(7));
+    for wrong in [
+        request(MB, MemoryLocation::CpuToGpu),
+        AllocationCreateDesc { allocation_scheme: alone, ..wanted.clone() },
+        AllocationCreateDesc {
+            requirements: MemoryRequirements { alignment: 3, ..wanted.requirements },
+            ..wanted.clone()
+        },
+    ] {
+        assert_eq!(a.propose_move(&to, &wrong).map(|_| ()), invalid);
+    }
+    let mut other = Allocator::new(&desc).unwrap();
+    for (allocator, stranger) in [(&mut other, &to), (&mut a, &Allocation::default())] {
+        let refused = allocator.propose_move(stranger, &wanted).map(|_| ()).unwrap_err();
+        assert_eq!(refused.number(), 6);
+    }
+    a.free(to).unwrap();
+    a.free(again).unwrap();
+    drop((a, other));
+    driver.assert_left_empty();
+}
+
+/// Blocks of 4 MB are full of pieces of 1 MB; then the second and the third have a gap each, at their ends.
+#[test]
+fn the_moves_of_a_frame_empty_the_lowest_block_first() {
+    let driver = FakeDriver::new(&[(7, 0)], &[1024 * MB], 64);
+    let sizes = AllocationSizes::new(4 * MB, 4 * MB);
+    let desc = AllocatorCreateDesc { allocation_sizes: sizes, ..AllocatorCreateDesc::new(driver.device()) };
+    let mut a = Allocator::new(&desc).unwrap();
+    let wanted = request(MB, MemoryLocation::CpuToGpu);
+    let mut live: Vec<Allocation> = (0..12).map(|_| a.allocate(&wanted).unwrap()).collect();
+    a.free(live.remove(11)).unwrap();
+    a.free(live.remove(7)).unwrap();
+    live.reverse(); // the lowest slot stands last
+    let movables: Vec<_> = live.iter().map(|it| (it, wanted.clone())).collect();
+    assert!(a.propose_moves(&movables, MB - 1).unwrap().is_empty());
+    let moves = a.propose_moves(&movables, 2 * MB - 1).unwrap();
+    assert_eq!(
+        moves.iter().map(|(index, to)| (*index, place(to).1, to.offset())).collect::<Vec<_>>(),
+        [(6, 2, 3 * MB)]
+    );
+    moves.into_iter().for_each(|(_, to)| a.free(to).unwrap());
+    let mut wrong = movables.clone();
+    wrong[7].1.requirements.size = 1;
+    assert_eq!(a.propose_moves(&wrong, 8 * MB).map(|_| ()), Err(AllocationError::InvalidAllocationCreateDesc));
+    let moves = a.propose_moves(&movables, 8 * MB).unwrap(); // both gaps are free still
+    assert_eq!(
+        moves.iter().map(|(index, to)| (*index, place(to).1, to.offset())).collect::<Vec<_>>(),
+        [(6, 2, 3 * MB), (7, 1, 3 * MB)]
+    );
+    moves.into_iter().for_each(|(_, to)| a.free(to).unwrap());
+    live.into_iter().for_each(|it| a.free(it).unwrap());
+    drop(a);
+    driver.assert_left_empty();
+}
+
+/// Of memory that needs flushes: each byte comes along, and where the driver refuses a flush the allocation stays.
+#[test]
+fn a_mapped_piece_moves_with_its_bytes() {
+    let driver = FakeDriver::new(&[(10, 0), (1, 0)], &[1024 * MB], 64).with_atoms(64);
+    let sizes = AllocationSizes::new(4 * MB, 4 * MB);
+    let desc = AllocatorCreateDesc { allocation_sizes: sizes, ..AllocatorCreateDesc::new(driver.device()) };
+    let mut a = Allocator::new(&desc).unwrap();
+    let wanted = request(2 * MB, MemoryLocation::Unknown);
+    let [mut first, second, third, fourth] = [(); 4].map(|()| a.allocate(&wanted).unwrap());
+    a.free(third).unwrap();
+    for (index, byte) in first.mapped_slice_mut().unwrap().iter_mut().enumerate() {
+        *byte = ((index * 31) >> 3) as u8;
+    }
+    for refused in 1..=2 {
+        let question = driver.state().questions + refused; // the invalidation, or the flush
+        driver.refuse(question, Refusal::Code(-1));
+        let before = place(&first);
+        assert_eq!(a.move_mapped(&mut first, &wanted).unwrap_err().number(), 6);
+        assert_eq!(place(&first), before);
+    }
+    assert_eq!(a.move_mapped(&mut first, &wanted), Ok(true));
+    assert_eq!((place(&first).1, memory(&first)), (1, memory(&fourth)));
+    assert!(first.mapped_slice().unwrap().iter().enumerate().all(|(index, &byte)| byte == ((index * 31) >> 3) as u8));
+    assert_eq!(a.move_mapped(&mut first, &wanted), Ok(false)); // nothing lies above it
+    let on_device = AllocationCreateDesc { location: MemoryLocation::GpuOnly, ..wanted.clone() };
+    let mut unseen = a.allocate(&on_device).unwrap();
+    assert_eq!(a.move_mapped(&mut unseen, &on_device).unwrap_err().number(), 6);
+    assert_eq!(a.move_mapped(&mut Allocation::default(), &wanted).unwrap_err().number(), 6);
+    for it in [first, second, fourth, unseen] {
+        a.free(it).unwrap();
+    }
+    drop(a);
+    driver.assert_left_empty();
+}
+
 #[test]
 fn without_device_addresses_nothing_is_chained() {
     let driver = driver();

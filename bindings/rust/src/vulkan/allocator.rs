@@ -9,7 +9,7 @@ use super::reading;
 use crate::error::{check, copied};
 use crate::memory_type::BlockStatistics;
 use crate::pieces::Visited;
-use crate::raw::{AllocatorPiece, DRIVER_REFUSED, FAILED_TO_MAP, NOT_LIVE};
+use crate::raw::{self, AllocatorPiece, DRIVER_REFUSED, FAILED_TO_MAP, NOT_LIVE};
 use crate::{
     AllocationError, AllocationSizes, AllocatorDebugSettings, AllocatorReport, Fault, Level, Logger, MemoryLocation,
     NamedPiece, Result,
@@ -97,8 +97,22 @@ pub struct TypeStatistics {
 }
 
 impl TypeStatistics {
+    /// What the library counts.
+    pub(crate) fn counted(s: &raw::TypeStatistics) -> Self {
+        TypeStatistics {
+            capacity: s.capacity,
+            slots: s.slots,
+            shared_blocks: s.shared_blocks,
+            budget: s.has_budget.then_some(s.budget),
+            pieces: s.pieces,
+            piece_bytes: s.piece_bytes,
+            gaps: s.gaps,
+            longest_gap: s.longest_gap,
+        }
+    }
+
     /// Of two memory types together.
-    fn and(self, other: Self) -> Self {
+    pub(crate) fn and(self, other: Self) -> Self {
         TypeStatistics {
             capacity: self.capacity + other.capacity,
             slots: self.slots + other.slots,
@@ -113,7 +127,7 @@ impl TypeStatistics {
 }
 
 /// Numbers of allocators: none comes again, so that no allocator takes another one's allocation for its own.
-fn next_owner() -> u64 {
+pub(crate) fn next_owner() -> u64 {
     static NEXT: AtomicU64 = AtomicU64::new(1);
     NEXT.fetch_add(1, Ordering::Relaxed)
 }
@@ -196,6 +210,67 @@ impl Allocator {
         }
         allocation.held = None;
         Ok(())
+    }
+
+    /// Looks for a second place for an allocation: the one that this request, which it was made for, would get as a new allocation now, if
+    /// that lies in a block that is looked at before its own; `None` where there is none. The driver isn't asked. Both are live then: bind
+    /// a new buffer or image at the second, copy, and free the first once the device has finished with both, which ends the move; or free
+    /// the second, which abandons it. The request's memory type bits and location aren't looked at.
+    ///
+    /// The errors, and then nothing changes: `HostOutOfMemory` of the binding's own, `Internal` where it is null or not this allocator's,
+    /// `InvalidAllocationCreateDesc`, also where the size isn't the allocation's or memory for one buffer or image alone is asked for,
+    /// `HostOutOfMemory`.
+    pub fn propose_move(
+        &mut self,
+        allocation: &Allocation,
+        desc: &AllocationCreateDesc<'_>,
+    ) -> Result<Option<Allocation>> {
+        let own = copied(desc.name)?;
+        let piece = self.live(allocation)?.piece;
+        let requirements = self.device().in_whole_atoms(desc.requirements);
+        let desc = AllocationCreateDesc { requirements, ..desc.clone() };
+        let Some(to) = self.machine.propose_move(&piece, &desc)? else { return Ok(None) };
+        self.requests += 1;
+        if let Some(capture) = &mut self.capture {
+            capture.moved(self.requests, to.memory_type, &desc);
+        }
+        Ok(Some(Allocation { held: Some(self.held(to, desc.allocation_scheme)), name: Some(own) }))
+    }
+
+    /// Proposes the moves of a frame: of these allocations, each with the request that it was made for, those in the lowest slots first, so
+    /// that low blocks empty, while they sum up to at most so many bytes. A move is the index of its allocation here and the second place.
+    ///
+    /// The errors: `HostOutOfMemory` of the list, and those of `propose_move`, where the moves before it are abandoned.
+    pub fn propose_moves(
+        &mut self,
+        movables: &[(&Allocation, AllocationCreateDesc<'_>)],
+        bytes: u64,
+    ) -> Result<Vec<(usize, Allocation)>> {
+        let (mut order, mut moves, mut left) = (Vec::new(), Vec::new(), bytes);
+        order.try_reserve_exact(movables.len())?;
+        moves.try_reserve_exact(movables.len())?;
+        order.extend(0..movables.len());
+        order.sort_unstable_by_key(|&index| (movables[index].0.memory_block_index(), index));
+        for index in order {
+            let (allocation, desc) = &movables[index];
+            if allocation.size() > left {
+                continue;
+            }
+            match self.propose_move(allocation, desc) {
+                Ok(None) => {}
+                Ok(Some(to)) => {
+                    left -= to.size();
+                    moves.push((index, to));
+                }
+                Err(error) => {
+                    for (_, to) in moves {
+                        self.free(to)?;
+                    }
+                    return Err(error);
+                }
+            }
+        }
+        Ok(moves)
     }
 
     /// Renames an allocation, a null one too.
@@ -418,7 +493,7 @@ impl Allocator {
 }
 
 /// Ends the program as Rust's lists do where the host has no memory for them.
-fn out_of_host_memory() -> ! {
+pub(crate) fn out_of_host_memory() -> ! {
     handle_alloc_error(Layout::new::<AllocatorReport>())
 }
 

@@ -1,8 +1,8 @@
 //! Captures: what was asked of an allocator, as a trace that the program `gpu_trace` replays (docs/TRACE.md).
 
 use super::device::{Answer, Refusal};
-use super::{AllocationCreateDesc, AllocationScheme, Device};
-use crate::{AllocationError, AllocationSizes, Result};
+use super::{AllocationCreateDesc, AllocationScheme, Device, MemoryRequirements};
+use crate::{AllocationError, AllocationSizes, MemoryLocation, Result};
 use std::fmt::{self, Write as _};
 use std::io;
 use std::iter;
@@ -135,6 +135,15 @@ impl Capture {
         self.record_behind_budgets(format_args!(
             "alloc {number} {size} {alignment} {bits} {location:?} {kind} {scheme} {name}"
         ));
+    }
+
+    /// Records a second place under its number, as an allocation that replays alike: of its memory type alone, and for any location.
+    pub(super) fn moved(&mut self, number: u64, memory_type: usize, desc: &AllocationCreateDesc<'_>) {
+        let requirements = MemoryRequirements { memory_type_bits: 1 << memory_type, ..desc.requirements };
+        self.allocated(
+            number,
+            &AllocationCreateDesc { requirements, location: MemoryLocation::Unknown, ..desc.clone() },
+        );
     }
 
     /// Forgets what the driver was asked since the last call: the host had no memory for this one.
@@ -332,8 +341,6 @@ impl fmt::Display for TraceName<'_> {
 #[cfg(test)]
 mod tests {
     use super::*;
-    use crate::vulkan::MemoryRequirements;
-    use crate::MemoryLocation;
 
     fn request(name: &str) -> AllocationCreateDesc<'_> {
         AllocationCreateDesc {

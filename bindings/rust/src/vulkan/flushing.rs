@@ -1,10 +1,11 @@
 //! Mapped bytes, made visible to the device or to the host where their memory isn't coherent.
 
 use super::allocation::{Allocation, Held};
-use super::allocator::Allocator;
+use super::allocator::{AllocationCreateDesc, Allocator};
 use super::device::{needs_flushes, Way};
 use crate::error::{internal, Fault};
 use crate::{AllocationError, Result};
+use std::mem;
 use std::ops::{Bound, Range, RangeBounds};
 
 const NOT_MAPPED: AllocationError = internal("Allocation is not mapped.");
@@ -44,6 +45,29 @@ impl Allocator {
         let seen = allocation.mapped_slice().ok_or(NOT_MAPPED)?;
         to.copy_from_slice(&seen[offset as usize..][..to.len()]);
         Ok(())
+    }
+
+    /// Moves a mapped allocation at once: where there is a second place (see [`Allocator::propose_move`]), its bytes are copied there, invalidated
+    /// before and flushed behind, the first place is freed, and the allocation is the second. Whether it moved. The device doesn't use the bytes
+    /// meanwhile.
+    ///
+    /// The errors, and then it stays: `Internal` where it isn't this allocator's or isn't mapped, those of `propose_move`, `Internal` where the
+    /// driver refuses.
+    pub fn move_mapped(&mut self, allocation: &mut Allocation, desc: &AllocationCreateDesc<'_>) -> Result<bool> {
+        self.mapped(allocation, &(..))?;
+        let Some(mut second) = self.propose_move(allocation, desc)? else { return Ok(false) };
+        if let Err(error) = self.copy_all(allocation, &mut second) {
+            self.free(second)?;
+            return Err(error);
+        }
+        self.free(mem::replace(allocation, second))?;
+        Ok(true)
+    }
+
+    fn copy_all(&self, from: &Allocation, to: &mut Allocation) -> Result<()> {
+        self.invalidate(from, ..)?;
+        let seen = from.mapped_slice().ok_or(NOT_MAPPED)?;
+        self.copy_to(seen, to, 0)
     }
 
     /// What a live mapped allocation stands for, and which bytes of its block a range of it is.

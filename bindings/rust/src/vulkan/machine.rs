@@ -58,7 +58,7 @@ fn memory_of(memory: u64, address: u64) -> Memory {
     Memory { handle: DeviceMemory(memory), address: Address::from_number(address) }
 }
 
-fn location_number(location: MemoryLocation) -> u32 {
+pub(crate) fn location_number(location: MemoryLocation) -> u32 {
     match location {
         MemoryLocation::Unknown => raw::LOCATION_UNKNOWN,
         MemoryLocation::GpuOnly => raw::LOCATION_GPU_ONLY,
@@ -183,6 +183,28 @@ impl Machine {
         Ok(())
     }
 
+    /// Looks for a second place for a live piece.
+    pub(super) fn propose_move(
+        &mut self,
+        piece: &AllocatorPiece,
+        desc: &AllocationCreateDesc<'_>,
+    ) -> Result<Option<AllocatorPiece>> {
+        let (mut moves, mut to) = (false, AllocatorPiece::default());
+        // SAFETY: the handle is this machine's alone, the name's bytes are as many as is said, and all of it outlives the call.
+        check(unsafe {
+            raw::pilhangko_raw_allocator_propose_move(
+                self.handle.as_ptr(),
+                piece,
+                &raw_request(desc),
+                desc.name.as_ptr(),
+                desc.name.len(),
+                &mut moves,
+                &mut to,
+            )
+        })?;
+        Ok(moves.then_some(to))
+    }
+
     /// Renames a live piece.
     pub(super) fn rename(&mut self, piece: &AllocatorPiece, name: &str) -> Result<()> {
         // SAFETY: the handle is this machine's alone, the name's bytes are as many as is said, and all of it outlives the call.
@@ -242,16 +264,7 @@ impl Machine {
         // SAFETY: the handle is this machine's alone: it isn't `Sync`.
         check(unsafe { raw::pilhangko_raw_allocator_type_statistics(self.handle.as_ptr(), memory_type, &mut s) })
             .ok()?;
-        Some(TypeStatistics {
-            capacity: s.capacity,
-            slots: s.slots,
-            shared_blocks: s.shared_blocks,
-            budget: s.has_budget.then_some(s.budget),
-            pieces: s.pieces,
-            piece_bytes: s.piece_bytes,
-            gaps: s.gaps,
-            longest_gap: s.longest_gap,
-        })
+        Some(TypeStatistics::counted(&s))
     }
 
     /// The live blocks by memory type and slot.

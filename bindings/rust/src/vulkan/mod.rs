@@ -44,6 +44,9 @@ pub use abi::{
     MemoryAllocateFlagsInfo, MemoryAllocateInfo, MemoryDedicatedAllocateInfo, MemoryHeap, MemoryPropertyFlags,
     MemoryRequirements, MemoryType, PhysicalDeviceMemoryProperties, SyncMappedMemoryRanges, UnmapMemory, VoidFunction,
 };
+pub(crate) use allocator::{next_owner, out_of_host_memory};
+pub(crate) use machine::location_number;
+
 pub use allocation::Allocation;
 pub use allocator::{AllocationCreateDesc, AllocationScheme, Allocator, AllocatorCreateDesc, TypeStatistics};
 pub use capture::{Capture, CaptureEnd};

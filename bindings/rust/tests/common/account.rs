@@ -239,6 +239,23 @@ impl Account {
         block.pieces.insert(offset, Piece { end, linear: desc.linear, name: desc.name.to_owned() });
     }
 
+    /// Looks at the second place of an allocation, and enters it: it lies in a shared block that is there, in a higher slot.
+    pub fn moved(&mut self, driver: &FakeDriver, desc: &AllocationCreateDesc<'_>, from: &Allocation, to: &Allocation) {
+        assert_eq!(to.memory_type_index(), from.memory_type_index());
+        assert!(to.memory_block_index() > from.memory_block_index());
+        let block = self.blocks[to.memory_type_index()][to.memory_block_index()].as_ref().expect("the block is there");
+        // SAFETY: the handle is only looked up.
+        assert!(block.is_shared && block.memory == unsafe { to.memory() }.0);
+        let held = driver.state().held[&block.memory];
+        self.enter_piece(desc, to, &held);
+    }
+
+    /// Whether a live piece is for a buffer or a linear image.
+    pub fn is_linear(&self, (memory_type, slot, offset): (usize, usize, u64)) -> bool {
+        let block = self.blocks[memory_type][slot].as_ref().expect("a piece is here");
+        block.pieces[&offset].linear
+    }
+
     /// Strikes out an allocation that is freed, and its block where that goes by the rule.
     pub fn freed(&mut self, (memory_type, slot, offset): (usize, usize, u64)) {
         let is_last = self.shared_count(memory_type) == 1;

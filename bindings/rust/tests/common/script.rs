@@ -38,6 +38,8 @@ pub struct Script {
     pub driver: Box<FakeDriver>,
     /// How often each outcome came: error numbers, and 0 for success.
     pub outcomes: BTreeMap<u32, u64>,
+    /// How often a second place was found, and how often there was none.
+    pub moves: BTreeMap<bool, u64>,
     is_captured: bool,
     /// The budgets as the capture has them by now.
     captured_budgets: Vec<Option<u64>>,
@@ -132,6 +134,7 @@ impl Script {
             replies: vec!["ok".to_owned()],
             driver,
             outcomes: BTreeMap::new(),
+            moves: BTreeMap::new(),
             is_captured,
             captured_budgets: vec![None; TYPES.len()],
         }
@@ -207,6 +210,42 @@ impl Script {
         self.told("ok".to_owned());
     }
 
+    /// A second place for a live allocation, which then is live beside it.
+    pub fn propose_move(&mut self) {
+        if self.live.is_empty() {
+            return;
+        }
+        let index = self.random.below(self.live.len() as u64) as usize;
+        let from = &self.live[index];
+        // a request that only the allocation's own memory type admits, or any
+        let (memory_type_bits, location) = if self.random.one_in(2) {
+            (1 << from.memory_type_index(), MemoryLocation::Unknown)
+        } else {
+            (u32::MAX, location(&mut self.random))
+        };
+        let desc = AllocationCreateDesc {
+            name: self.random.of(&NAMES),
+            requirements: MemoryRequirements { size: from.size(), alignment: 16, memory_type_bits },
+            location,
+            linear: self.account.is_linear(place(from)),
+            allocation_scheme: AllocationScheme::GpuAllocatorManaged,
+        };
+        let questions = self.driver.state().questions;
+        let proposed = self.allocator.propose_move(from, &desc).expect("a live allocation of that size may move");
+        assert_eq!(self.driver.state().questions, questions);
+        *self.moves.entry(proposed.is_some()).or_default() += 1;
+        let Some(mut to) = proposed else { return };
+        self.account.moved(&self.driver, &desc, from, &to);
+        assert!(self.allocator.is_live(from) && self.allocator.is_live(&to));
+        assert_eq!(to.name(), Some(desc.name));
+        assert_marked(from);
+        mark(&mut to);
+        let result = Ok(to);
+        self.told_budgets();
+        self.told(reply(&result));
+        self.live.extend(result);
+    }
+
     pub fn set_budget(&mut self) {
         let memory_type = self.random.below(TYPES.len() as u64 + 1) as usize;
         let budget = (!self.random.one_in(2)).then(|| self.random.below(120 * MB));
@@ -227,7 +266,8 @@ impl Script {
         match self.random.below(100) {
             0 => self.set_budget(),
             1..=3 => self.rename(),
-            it if it < 4 + allocates => self.allocate(),
+            4..=8 => self.propose_move(),
+            it if it < 6 + allocates => self.allocate(),
             _ => self.free(),
         }
         self.account.assert_held(&self.driver);

@@ -1,0 +1,462 @@
+//! The allocator.
+
+use super::abi::{ClearValue, HeapProperties, ResourceDesc};
+use super::allocation::{Allocation, Memory, Resource};
+use super::device::{heap_size, ID3D12DeviceVersion, Place, Wanted};
+use super::machine::{choose_call, heap_of, Machine, Progress};
+use super::Interface;
+use crate::error::{check, copied};
+use crate::memory_type::BlockStatistics;
+use crate::pieces::Visited;
+use crate::raw::{HeapsPiece, NOT_LIVE};
+use crate::vulkan::{next_owner, out_of_host_memory, TypeStatistics};
+use crate::{
+    AllocationError, AllocationReport, AllocationSizes, AllocatorDebugSettings, AllocatorReport, Level, Logger,
+    MemoryBlockReport, MemoryLocation, NamedPiece, Result,
+};
+use std::fmt;
+
+/// Of which category a resource is: `ResourceCategory::from(&desc)`. At resource heap tier 1 a heap holds one category alone; at later tiers
+/// it doesn't matter.
+#[derive(Clone, Copy, Debug, PartialEq, Eq)]
+pub enum ResourceCategory {
+    /// A buffer.
+    Buffer,
+    /// A texture that may be a render target or a depth stencil.
+    RtvDsvTexture,
+    /// Any other texture.
+    OtherTexture,
+}
+
+/// How a resource begins.
+#[derive(Clone, Copy, Debug, PartialEq, Eq)]
+pub enum ResourceStateOrBarrierLayout {
+    /// In a state: the number of a `D3D12_RESOURCE_STATES`.
+    ResourceState(u32),
+    /// In a layout: the number of a `D3D12_BARRIER_LAYOUT`. It needs an `ID3D12Device10`.
+    BarrierLayout(u32),
+}
+
+/// Where a resource goes.
+#[derive(Clone, Copy, Debug)]
+pub enum ResourceType<'a> {
+    /// Into memory of its own.
+    Committed {
+        /// What the memory is like.
+        heap_properties: &'a HeapProperties,
+        /// `D3D12_HEAP_FLAGS`.
+        heap_flags: u32,
+    },
+    /// Into a heap.
+    Placed,
+}
+
+/// What is asked of an allocator.
+#[derive(Clone, Debug)]
+pub struct AllocationCreateDesc<'a> {
+    /// A name for reports and leaks.
+    pub name: &'a str,
+    /// Who reads and writes it.
+    pub location: MemoryLocation,
+    /// How many bytes (`ID3D12Device::GetResourceAllocationInfo`): not 0.
+    pub size: u64,
+    /// A power of two: it too.
+    pub alignment: u64,
+    /// What is to lie there.
+    pub resource_category: ResourceCategory,
+}
+
+impl<'a> AllocationCreateDesc<'a> {
+    /// What a resource needs, as the device tells it.
+    pub fn from_d3d12_resource_desc(
+        device: &ID3D12DeviceVersion,
+        desc: &ResourceDesc,
+        name: &'a str,
+        location: MemoryLocation,
+    ) -> Self {
+        let info = device.allocation_info(desc, &[]);
+        let resource_category = ResourceCategory::from(desc);
+        AllocationCreateDesc { name, location, size: info.size, alignment: info.alignment, resource_category }
+    }
+}
+
+/// A resource that is asked for.
+#[derive(Clone, Copy, Debug)]
+pub struct ResourceCreateDesc<'a> {
+    /// A name for reports and leaks.
+    pub name: &'a str,
+    /// Who reads and writes it.
+    pub memory_location: MemoryLocation,
+    /// What it is.
+    pub resource_category: ResourceCategory,
+    /// Its description.
+    pub resource_desc: &'a ResourceDesc,
+    /// The numbers of `DXGI_FORMAT`s. They need an `ID3D12Device12`, and a layout.
+    pub castable_formats: &'a [u32],
+    /// What it is cleared to.
+    pub clear_value: Option<&'a ClearValue>,
+    /// How it begins.
+    pub initial_state_or_layout: ResourceStateOrBarrierLayout,
+    /// Where it goes.
+    pub resource_type: &'a ResourceType<'a>,
+}
+
+/// What an allocator is made with.
+#[derive(Clone, Debug)]
+pub struct AllocatorCreateDesc {
+    /// The device that is asked.
+    pub device: ID3D12DeviceVersion,
+    /// What is logged, where there is a logger.
+    pub debug_settings: AllocatorDebugSettings,
+    /// The sizes of the blocks that pieces share.
+    pub allocation_sizes: AllocationSizes,
+    /// Where log lines go.
+    pub logger: Option<Logger>,
+}
+
+impl AllocatorCreateDesc {
+    /// A description with the default settings and sizes, and without a logger.
+    pub fn new(device: ID3D12DeviceVersion) -> Self {
+        AllocatorCreateDesc {
+            device,
+            debug_settings: AllocatorDebugSettings::default(),
+            allocation_sizes: AllocationSizes::default(),
+            logger: None,
+        }
+    }
+}
+
+/// What is counted of a memory type's committed resources.
+#[derive(Clone, Copy, Debug, Default, PartialEq, Eq)]
+pub struct CommittedAllocationStatistics {
+    /// How many there are.
+    pub num_allocations: usize,
+    /// The sum of their sizes in bytes.
+    pub total_size: u64,
+}
+
+/// An allocator of a device's heaps. It may go from thread to thread, and serves one call at a time (`Mutex<Allocator>`). Dropping it releases
+/// its heaps and logs the allocations that are live still: these, and resources, hold their heaps as long as they live.
+pub struct Allocator {
+    machine: Machine,
+    device: ID3D12DeviceVersion,
+    owner: u64,
+    debug_settings: AllocatorDebugSettings,
+    logger: Option<Logger>,
+}
+
+impl Allocator {
+    /// An allocator without heaps; the device is asked for its resource heap tier.
+    ///
+    /// The errors: `Internal` where it doesn't tell that, `InvalidAllocatorCreateDesc` where it is 0, `HostOutOfMemory`.
+    pub fn new(desc: &AllocatorCreateDesc) -> Result<Self> {
+        let tier = desc.device.heap_tier()?;
+        Ok(Allocator {
+            machine: Machine::new(tier, &desc.allocation_sizes)?,
+            device: desc.device.clone(),
+            owner: next_owner(),
+            debug_settings: desc.debug_settings,
+            logger: desc.logger.clone(),
+        })
+    }
+
+    /// The device.
+    pub fn device(&self) -> &ID3D12DeviceVersion {
+        &self.device
+    }
+
+    /// Allocates a piece: of a shared heap with a place, or of a new one that the driver is asked for.
+    ///
+    /// The errors, the first that holds: `HostOutOfMemory` of the binding's own, `InvalidAllocationCreateDesc`, `HostOutOfMemory`,
+    /// `OutOfMemory` where the heaps' sizes would pass `u64::MAX`, `BudgetExceeded`, and what the driver refuses: `OutOfMemory` for
+    /// `E_OUTOFMEMORY`, `Internal` for another code, or null.
+    pub fn allocate(&mut self, desc: &AllocationCreateDesc<'_>) -> Result<Allocation> {
+        let AllocationCreateDesc { name, size, alignment, .. } = *desc;
+        self.log(
+            self.debug_settings.log_allocations,
+            format_args!("Allocating `{name}` of {size} bytes with an alignment of {alignment}."),
+        );
+        let own = copied(name)?;
+        let piece = match self.machine.begin(desc)? {
+            Progress::Piece(piece) => piece,
+            Progress::Question(question) => match self.device.create_heap(&question) {
+                Ok(heap) => self.machine.granted(heap),
+                Err(code) => return Err(self.machine.refused(code)),
+            },
+        };
+        Ok(Allocation { piece, owner: self.owner, heap: heap_of(&piece), name: own })
+    }
+
+    /// Frees an allocation; its heap is released where it is left empty and isn't the only shared one of its memory type. It needs no host
+    /// memory.
+    ///
+    /// The error: `Internal` where it isn't this allocator's, beside the allocation, which its own allocator frees.
+    #[allow(clippy::result_large_err, reason = "what is refused comes back")]
+    pub fn free(&mut self, allocation: Allocation) -> Result<(), (AllocationError, Allocation)> {
+        let result = self.release(&allocation);
+        // behind the work, so that nothing is lost where the logger panics
+        self.log(self.debug_settings.log_frees, format_args!("Freeing `{}`.", allocation.name));
+        result.map_err(|error| (error, allocation))
+    }
+
+    fn release(&mut self, allocation: &Allocation) -> Result<()> {
+        self.owns(allocation.owner)?;
+        self.machine.free(&allocation.piece)
+    }
+
+    /// Looks for a second place for an allocation: the one that this request, which it was made for, would get as a new allocation now, if
+    /// that lies in a heap that is looked at before its own; `None` where there is none. The driver isn't asked. Both are live then: make
+    /// the resource anew at the second, copy, and free the first once the device has finished with both, which ends the move; or free the
+    /// second, which abandons it. The request's location and category aren't looked at.
+    ///
+    /// The errors, and then nothing changes: `HostOutOfMemory` of the binding's own, `Internal` where it isn't this allocator's,
+    /// `InvalidAllocationCreateDesc`, also where the size isn't the allocation's, `HostOutOfMemory`.
+    pub fn propose_move(
+        &mut self,
+        allocation: &Allocation,
+        desc: &AllocationCreateDesc<'_>,
+    ) -> Result<Option<Allocation>> {
+        let own = copied(desc.name)?;
+        self.owns(allocation.owner)?;
+        let Some(piece) = self.machine.propose_move(&allocation.piece, desc)? else { return Ok(None) };
+        Ok(Some(Allocation { piece, owner: self.owner, heap: heap_of(&piece), name: own }))
+    }
+
+    /// Renames an allocation.
+    ///
+    /// The errors, and then nothing changes: `Internal` where it isn't this allocator's, `HostOutOfMemory`.
+    pub fn rename_allocation(&mut self, allocation: &mut Allocation, name: &str) -> Result<()> {
+        let own = copied(name)?;
+        self.owns(allocation.owner)?;
+        self.machine.rename(&allocation.piece, name)?;
+        allocation.name = own;
+        Ok(())
+    }
+
+    /// Whether an allocation is this allocator's and live.
+    pub fn is_live(&self, allocation: &Allocation) -> bool {
+        self.owns(allocation.owner).is_ok() && self.machine.is_live(&allocation.piece)
+    }
+
+    /// Makes a resource: in a piece of a heap, or with memory of its own. What was made is undone where something fails.
+    ///
+    /// The errors, the first that holds: `CastableFormatsRequiresEnhancedBarriers`, `CastableFormatsRequiresAtLeastDevice12`,
+    /// `BarrierLayoutNeedsDevice10`; of a placed one those of `allocate`, of a committed one `OutOfMemory` where the sizes of its memory
+    /// type's committed resources would pass `u64::MAX`, and `HostOutOfMemory`; then `Internal` with the driver's code, of a device that was
+    /// removed with the reason.
+    pub fn create_resource(&mut self, desc: &ResourceCreateDesc<'_>) -> Result<Resource> {
+        let (begins, in_layout) = match desc.initial_state_or_layout {
+            ResourceStateOrBarrierLayout::ResourceState(state) => (state, false),
+            ResourceStateOrBarrierLayout::BarrierLayout(layout) => (layout, true),
+        };
+        let call = choose_call(&self.device, in_layout, !desc.castable_formats.is_empty())?;
+        let ResourceCreateDesc { resource_desc, castable_formats, clear_value, .. } = *desc;
+        let wanted = Wanted { desc: resource_desc, castable_formats, clear_value, begins, call };
+        match *desc.resource_type {
+            ResourceType::Placed => self.create_placed(desc, &wanted),
+            ResourceType::Committed { heap_properties, heap_flags } => {
+                self.create_committed(desc, &wanted, Place::Committed(heap_properties, heap_flags))
+            }
+        }
+    }
+
+    fn create_placed(&mut self, desc: &ResourceCreateDesc<'_>, wanted: &Wanted<'_>) -> Result<Resource> {
+        let info = self.device.allocation_info(desc.resource_desc, desc.castable_formats);
+        let allocation = self.allocate(&AllocationCreateDesc {
+            name: desc.name,
+            location: desc.memory_location,
+            size: info.size,
+            alignment: info.alignment,
+            resource_category: desc.resource_category,
+        })?;
+        match self.device.create_resource(wanted, Place::In(&allocation.heap, allocation.offset())) {
+            Ok(resource) => {
+                let memory = Memory::Placed(allocation);
+                Ok(Resource { resource, memory, memory_location: desc.memory_location, size: info.size })
+            }
+            Err(code) => {
+                let error = self.device.resource_refused(true, code);
+                self.machine.free(&allocation.piece)?;
+                Err(error)
+            }
+        }
+    }
+
+    fn create_committed(
+        &mut self,
+        desc: &ResourceCreateDesc<'_>,
+        wanted: &Wanted<'_>,
+        place: Place<'_>,
+    ) -> Result<Resource> {
+        let info = self.device.allocation_info(desc.resource_desc, desc.castable_formats);
+        self.machine.begin_committed(info.size, desc.memory_location, desc.resource_category)?;
+        match self.device.create_resource(wanted, place) {
+            Ok(resource) => {
+                let memory = Memory::Committed { record: self.machine.made(&resource), owner: self.owner };
+                Ok(Resource { resource, memory, memory_location: desc.memory_location, size: info.size })
+            }
+            Err(code) => {
+                self.machine.not_made();
+                Err(self.device.resource_refused(false, code))
+            }
+        }
+    }
+
+    /// Releases a resource, and then frees its memory. References that were cloned are released before.
+    ///
+    /// The error: `Internal` where it isn't this allocator's, beside the resource, which its own allocator frees.
+    #[allow(clippy::result_large_err, reason = "what is refused comes back")]
+    pub fn free_resource(&mut self, resource: Resource) -> Result<(), (AllocationError, Resource)> {
+        let owner = match &resource.memory {
+            Memory::Placed(allocation) => allocation.owner,
+            Memory::Committed { owner, .. } => *owner,
+        };
+        if let Err(error) = self.owns(owner) {
+            return Err((error, resource));
+        }
+        let Resource { resource, memory, .. } = resource;
+        drop(resource); // before its heap may go
+        let freed = match &memory {
+            Memory::Placed(allocation) => self.release(allocation),
+            Memory::Committed { record, .. } => self.machine.forget(record),
+        };
+        freed.expect("a resource's memory is live");
+        Ok(())
+    }
+
+    /// Bounds the sum of the sizes of a memory type's heaps in bytes, or takes the bound away. A bound below the present sum releases no
+    /// heap. Committed resources don't count.
+    ///
+    /// The error: `Internal` where there is no such memory type.
+    pub fn set_budget(&mut self, memory_type: usize, budget: Option<u64>) -> Result<()> {
+        self.machine.set_budget(memory_type, budget)
+    }
+
+    /// The bound of a memory type in bytes; `None` where it has none, or isn't there.
+    pub fn budget(&self, memory_type: usize) -> Option<u64> {
+        self.machine.budget(memory_type)
+    }
+
+    /// The sum of the sizes of the heaps in bytes.
+    pub fn capacity(&self) -> u64 {
+        self.machine.capacity()
+    }
+
+    /// What is counted of a memory type's committed resources; `None` where it isn't there. Memory types are for `GpuOnly`, `CpuToGpu` and
+    /// `GpuToCpu`; at resource heap tier 1 each has three, by category.
+    pub fn committed(&self, memory_type: usize) -> Option<CommittedAllocationStatistics> {
+        let counted = self.machine.committed(memory_type)?;
+        Some(CommittedAllocationStatistics { num_allocations: counted.count, total_size: counted.bytes })
+    }
+
+    /// What is counted of a memory type; `None` where it isn't there.
+    pub fn type_statistics(&self, memory_type: usize) -> Option<TypeStatistics> {
+        self.machine.type_statistics(memory_type)
+    }
+
+    /// The same of all memory types together: the sums, and the longest gap of any; without a budget.
+    pub fn statistics(&self) -> TypeStatistics {
+        let types = (0..).map_while(|memory_type| self.type_statistics(memory_type));
+        types.fold(TypeStatistics::default(), TypeStatistics::and)
+    }
+
+    /// What is counted of the heap in a slot of a memory type, if one is there.
+    pub fn block_statistics(&self, memory_type: usize, slot: usize) -> Option<BlockStatistics> {
+        self.machine.block_at(memory_type, slot).statistics()
+    }
+
+    /// All live pieces of the heap in a slot in order of offset, with their names, in linear time; none where the slot has no heap.
+    ///
+    /// The error: `HostOutOfMemory`.
+    pub fn named_pieces(&self, memory_type: usize, slot: usize) -> Result<Vec<NamedPiece>> {
+        self.machine.block_at(memory_type, slot).named()
+    }
+
+    /// What is held: pieces and heaps by memory type, slot and offset. Where the host has no memory for it, the program ends, as it does
+    /// wherever Rust's lists have none; `report_json` and `named_pieces` return an error instead.
+    pub fn generate_report(&self) -> AllocatorReport {
+        self.report().unwrap_or_else(|_| out_of_host_memory())
+    }
+
+    fn report(&self) -> Result<AllocatorReport> {
+        let mut report = AllocatorReport {
+            allocations: Vec::new(),
+            blocks: Vec::new(),
+            total_allocated_bytes: 0,
+            total_capacity_bytes: self.capacity(),
+        };
+        for (heap, block) in self.machine.blocks() {
+            let (pieces, start) = (block.named()?, report.allocations.len());
+            report.total_allocated_bytes += pieces.iter().map(|it| it.view.end - it.view.start).sum::<u64>();
+            report.allocations.try_reserve(pieces.len())?;
+            report.allocations.extend(pieces.into_iter().map(row));
+            report.blocks.try_reserve(1)?;
+            report
+                .blocks
+                .push(MemoryBlockReport { size: size_of_heap(heap), allocations: start..report.allocations.len() });
+        }
+        Ok(report)
+    }
+
+    /// The report as JSON (`gpu_report.allocator` of docs/REPORT.md).
+    ///
+    /// The error: `HostOutOfMemory`.
+    pub fn report_json(&self) -> Result<String> {
+        self.machine.report_json()
+    }
+
+    /// Logs each live allocation as a leak, by memory type, slot and offset, where there is a logger. Where the host has no memory for the
+    /// next ones, the last line says so.
+    pub fn report_memory_leaks(&self, log_level: Level) {
+        let Some(logger) = &self.logger else { return };
+        for leak in (0..).map(|index| self.machine.leak(index)) {
+            match leak {
+                Ok(text) if text.is_empty() => return,
+                Ok(text) => logger.log(log_level, text.trim_end()),
+                Err(_) => return logger.log(log_level, "the host refused memory for further leaks"),
+            }
+        }
+    }
+
+    fn owns(&self, owner: u64) -> Result<()> {
+        if owner == self.owner {
+            Ok(())
+        } else {
+            check(NOT_LIVE)
+        }
+    }
+
+    fn log(&self, is_wanted: bool, line: fmt::Arguments<'_>) {
+        if let (true, Some(logger)) = (is_wanted, &self.logger) {
+            logger.log(Level::Debug, &line.to_string());
+        }
+    }
+}
+
+/// The size of a heap of the machine's, by its number.
+fn size_of_heap(number: u64) -> u64 {
+    let mut piece = HeapsPiece::default();
+    piece.piece.block = number;
+    let heap: Interface = heap_of(&piece);
+    // SAFETY: it is a heap.
+    unsafe { heap_size(&heap) }
+}
+
+fn row(piece: NamedPiece) -> AllocationReport {
+    AllocationReport { offset: piece.view.offset, size: piece.view.size(), name: piece.name }
+}
+
+impl fmt::Debug for Allocator {
+    fn fmt(&self, f: &mut fmt::Formatter<'_>) -> fmt::Result {
+        self.generate_report().fmt(f)
+    }
+}
+
+/// The heaps are released behind the lines, also where the logger panics.
+impl Drop for Allocator {
+    fn drop(&mut self) {
+        if self.debug_settings.log_leaks_on_shutdown {
+            self.report_memory_leaks(Level::Warn);
+        }
+    }
+}
