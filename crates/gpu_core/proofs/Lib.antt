@@ -4,7 +4,8 @@ pub mod NewSlots
 pub mod Putting
 pub mod Found
 pub mod Starved
-pub mod Bounded
+pub mod Runs
+pub mod Noted
 pub mod Passing
 pub mod Needs
 pub mod EmptyBlocks

@@ -1,5 +1,5 @@
 -- The slot of a new block: an empty one, or the end.
-use Rattle.std.proofs.Common.{◌≡◌, ℕ, ◌<◌, Bool, true, false, List, [], ◌∷◌, ◌++◌, length, refl, sym, subst, arith, Option, Some, None, slice_set}
+use Rattle.std.proofs.Common.{◌≡◌, ℕ, ◌<◌, ◌≤◌, Bool, true, false, List, [], ◌∷◌, ◌++◌, length, refl, sym, subst, arith, Option, Some, None, slice_set}
 use Rattle.std.proofs.lemmas.Grind.{common_steps}
 use Rattle.gpu_core.specs.TypeState.{Slot, lowest_empty, highest_empty}
 use Rattle.gpu_core.specs.TypeTake.{new_slot, with_block}
@@ -23,6 +23,11 @@ highest_new slots (Some i) e = rw e (empty_slot (highest_empty_found slots i e))
 pub is_new_slot : {H : Type 0} (is_dedicated : Bool) (slots : List (Option (Slot H))) → IsNewSlot slots (new_slot is_dedicated slots)
 is_new_slot true slots = lowest_new slots (lowest_empty slots) refl
 is_new_slot false slots = highest_new slots (highest_empty slots) refl
+
+-- it isn't past the end
+pub new_within : {H : Type 0} (slots : List (Option (Slot H))) (i : ℕ) → IsNewSlot slots i → i ≤ length slots
+new_within slots i (empty_slot at) = (let below = at.below in omega arith)
+new_within slots i (the_end at) = omega arith
 
 pub with_empty : {H : Type 0} (slots : List (Option (Slot H))) (i : ℕ) (s : Slot H) → i < length slots → with_block slots i s ≡ slice_set slots i (Some s)
 with_empty slots i s below = grind (arith, common_steps, below)

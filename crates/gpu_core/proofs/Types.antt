@@ -100,6 +100,16 @@ total_set (s ∷ ss) (suc i) x below =
     let old = sum_by-cons (λ s. capacity_of s) s ss in
     omega (arith, rest, new, old)
 
+-- the same where a type changes, and the code's sum with it
+pub sum_kept : {H : Type 0} (types : Types H) (i : ℕ) (old new : TypeState H) (before after : ℕ) → slice_get types i ≡ Some old → i < length types → before ≡ total_capacity (slots_of types)
+    → after + capacity_of old.slots ≡ before + capacity_of new.slots → after ≡ total_capacity (slots_of (slice_set types i new))
+sum_kept {H} types i old new before after at below is moved =
+    let long = length-map types (λ (t : TypeState H). t.slots) in
+    let total = total_set (slots_of types) i new.slots (omega (arith, below, long)) in
+    let set = ap (λ (ss : Slots H). total_capacity ss) (slots_set types i new) in
+    let was = ap (λ (ss : List (Option (Slot H))). capacity_of ss) (slots_are types i old at) in
+    omega (arith, total, set, was, is, moved)
+
 -- ---- what stays so by every call
 
 all_set : {A : Type 0} (P : A → Type 0) (xs : List A) (i : ℕ) (x : A) → All P xs → P x → All P (slice_set xs i x)
@@ -122,9 +132,19 @@ invariant_set {H} types i old new at below inv good one fits =
       sum = omega (arith, total, set, was, fits);
     }
 
--- memory types without blocks
+-- memory types without blocks sum up to nothing
+pub sum_empty : {H : Type 0} (types : Types H) → All (λ slots. slots ≡ []) (slots_of types) → 0 ≡ total_capacity (slots_of types)
+sum_empty [] empty = refl
+sum_empty (t ∷ ts) empty =
+    let rest = sum_empty ts (All-tail (λ slots. slots ≡ []) t.slots (slots_of ts) empty) in
+    let here : capacity_of t.slots ≡ 0 = ap (λ ss. capacity_of ss) (All-head (λ slots. slots ≡ []) t.slots (slots_of ts) empty) in
+    let split = sum_by-cons (λ s. capacity_of s) t.slots (slots_of ts) in
+    omega (arith, rest, here, split)
+
 pub invariant_empty : {H : Type 0} (types : Types H) → All (λ slots. slots ≡ []) (slots_of types) → MemoryTypesInvariant types
-invariant_empty types empty = record { well_formed = formed types empty; empty = ones types empty; sum = none types empty }
+invariant_empty types empty =
+    let none = sum_empty types empty in
+    record { well_formed = formed types empty; empty = ones types empty; sum = omega (arith, none) }
   where
     formed : {H : Type 0} (types : Types H) → All (λ slots. slots ≡ []) (slots_of types) → All WellFormed types
     formed [] empty = All-nil WellFormed
@@ -137,14 +157,6 @@ invariant_empty types empty = record { well_formed = formed types empty; empty =
     ones (t ∷ ts) empty =
         All-cons OneEmpty t ts (subst KeepsOneEmptyAtMost (sym (All-head (λ slots. slots ≡ []) t.slots (slots_of ts) empty)) none_empty)
         (ones ts (All-tail (λ slots. slots ≡ []) t.slots (slots_of ts) empty))
-
-    none : {H : Type 0} (types : Types H) → All (λ slots. slots ≡ []) (slots_of types) → total_capacity (slots_of types) < 2 ^ 64
-    none [] empty = omega arith
-    none (t ∷ ts) empty =
-        let rest = none ts (All-tail (λ slots. slots ≡ []) t.slots (slots_of ts) empty) in
-        let here : capacity_of t.slots ≡ 0 = ap (λ ss. capacity_of ss) (All-head (λ slots. slots ≡ []) t.slots (slots_of ts) empty) in
-        let split = sum_by-cons (λ s. capacity_of s) t.slots (slots_of ts) in
-        omega (arith, rest, here, split)
 
 pub type_there : {H : Type 0} (types : Types H) (i : ℕ) → i < length types → slice_get types i ≡ Some (type_of types i)
 type_there types i below = slice_get-get_or types i no_type below

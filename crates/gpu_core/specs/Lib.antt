@@ -2,7 +2,7 @@ pub mod TypeState
 pub mod TypeTake
 pub mod TypeRelease
 pub mod TypeReport
-pub mod Longest
+pub mod Marks
 pub mod Slots
 pub mod TypeInvariant
 pub mod TypePrepare

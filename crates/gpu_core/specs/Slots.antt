@@ -3,6 +3,7 @@ use Rattle.std.specs.Prelude.{◌≡◌, ◌≢◌, ℕ, ◌<◌, Bool, true, Li
 use Rattle.std.specs.Option.{option_map}
 use Rattle.gpu_core.specs.declared.slot.LiveBlock.{LiveBlock}
 use Rattle.gpu_core.specs.declared.slot.ReleasedBlock.{ReleasedBlock}
+use Rattle.gpu_core.specs.declared.slots.Notes.{Notes}
 use Rattle.gpu_core.specs.declared.slot.Finding.{Finding}
 use Rattle.gpu_core.specs.declared.slot.Finding.TheVariants as findings
 use Rattle.gpu_block_pieces.specs.Request.{Request}
@@ -30,15 +31,24 @@ pub record SlotList (H : Type 0) : Type 0 where
 abbrev pub Bounds : {H : Type 0} → ℕ → Option (Slot H) → Type 0
 Bounds longest s = (r : Request) → longest < r.size → CannotServe r s
 
--- each slot has its bound
-pub record AreBounded {H : Type 0} (longest : List ℕ) (slots : List (Option (Slot H))) : Type 0 where
-  pub length_is : length longest ≡ length slots
-  pub each : (i : ℕ) → Bounds (slice_index longest i) (slot_at slots i)
+-- how many blocks it has a place for
+abbrev pub vacancies : {H : Type 0} → Option (Slot H) → ℕ
+vacancies None = 1
+vacancies (Some s) = 0
 
--- each slot but one has its bound
-pub record OthersAreBounded {H : Type 0} (one : ℕ) (longest : List ℕ) (slots : List (Option (Slot H))) : Type 0 where
-  pub length_is : length longest ≡ length slots
-  pub each : (i : ℕ) → i ≢ one → Bounds (slice_index longest i) (slot_at slots i)
+-- of each slot its bound and its vacancies are noted
+pub record AreNoted {H : Type 0} (notes : Notes) (slots : List (Option (Slot H))) : Type 0 where
+  pub as_long : length notes.longest.marks ≡ length slots
+  pub as_many : length notes.vacant.marks ≡ length slots
+  pub bounded : (i : ℕ) → Bounds (slice_index notes.longest.marks i) (slot_at slots i)
+  pub counted : (i : ℕ) → i < length slots → slice_index notes.vacant.marks i ≡ vacancies (slot_at slots i)
+
+-- the same of each slot but one
+pub record OthersAreNoted {H : Type 0} (one : ℕ) (notes : Notes) (slots : List (Option (Slot H))) : Type 0 where
+  pub as_long : length notes.longest.marks ≡ length slots
+  pub as_many : length notes.vacant.marks ≡ length slots
+  pub bounded : (i : ℕ) → i ≢ one → Bounds (slice_index notes.longest.marks i) (slot_at slots i)
+  pub counted : (i : ℕ) → i ≢ one → i < length slots → slice_index notes.vacant.marks i ≡ vacancies (slot_at slots i)
 
 -- a slot's block has the type's pages and is sound, and its pieces of different kinds share no page
 abbrev pub SlotIsSound : {H : Type 0} → ℕ → Option (Slot H) → Type 0

@@ -3,7 +3,7 @@
 //! DirectX 12 and Metal. Re-exports blocks and plain values.
 #![tactic(auto)]
 
-mod longest;
+mod marks;
 mod memory_type;
 mod memory_types;
 mod need;

@@ -9,12 +9,10 @@ ghost use Rattle.gpu_values.specs.Refusal.{refusal_of, refusal_in, internal};
 ghost use Rattle.gpu_core.specs.Requests.{refusal_in_type, refusal_of_need};
 ghost use Rattle.gpu_values.specs.Report.{report_of};
 
-mod capacity;
 mod leaks;
 mod report;
 
 use crate::{MemoryType, NeedBlock, Piece, Prepared, Request};
-use capacity::total_capacity;
 use gpu_values::{
     AllocationError, AllocationSizes, AllocationType, AllocatorReport, Fault, Result,
 };
@@ -29,16 +27,19 @@ use std::marker::Model;
 #[derive(Drop)]
 pub struct MemoryTypes<H: Copy + Eq> {
     types: Vec<MemoryType<H>>,
+    // The sum over all types, which each request for a block is held against.
+    capacity: u64,
 }
 
 impl<H: Copy + Eq> Model for MemoryTypes<H> {
-    ghost use Rattle.gpu_core.specs.Types.{Types, MemoryTypesInvariant};
+    ghost use Rattle.gpu_core.specs.Types.{Types};
+    ghost use Rattle.gpu_core.specs.TypeInvariant.{AllAreKept};
 
     ghost Value = { Types H };
 
     ghost view = { λ m. m.types.items };
 
-    ghost invariant = { λ m. MemoryTypesInvariant m.types.items };
+    ghost invariant = { λ m. AllAreKept m.types.items m.capacity };
 }
 
 /// Whether the device may be asked for a new block of `size` bytes: `OutOfMemory` where it would carry the sum of all
@@ -118,7 +119,7 @@ impl<H: Copy + Eq> MemoryTypes<H> {
         ensures types { result ≡ types.items }
         ensures kept { MemoryTypesInvariant result }
     {
-        MemoryTypes { types }
+        MemoryTypes { types, capacity: 0 }
     }
 
     /// How many memory types there are.
@@ -133,7 +134,7 @@ impl<H: Copy + Eq> MemoryTypes<H> {
         ensures sum { result ≡ total_capacity (slots_of self.now) }
         ensures kept { MemoryTypesInvariant self.now }
     {
-        total_capacity(&self.types)
+        self.capacity
     }
 
     /// Bounds the sum of the sizes of the live blocks of the memory type at `index`, in bytes; `None` takes the bound away. A
@@ -216,6 +217,7 @@ impl<H: Copy + Eq> MemoryTypes<H> {
         ensures budgets { budgets self.new ≡ budgets self.old }
         ensures kept { MemoryTypesInvariant self.new }
     {
+        self.capacity += need.size;
         self.types[index].install(need, handle)
     }
 
@@ -263,7 +265,12 @@ impl<H: Copy + Eq> MemoryTypes<H> {
         if index >= self.types.len() {
             return Err(missing_type());
         }
-        self.types[index].free(piece)
+        let its_type = &mut self.types[index];
+        let before = its_type.capacity();
+        let freed = its_type.free(piece);
+        let after = its_type.capacity();
+        self.capacity -= before - after;
+        freed
     }
 
     /// Renames a piece of the memory type at `index`. `Internal` where the piece isn't live, else

@@ -9,7 +9,7 @@ ghost use Rattle.gpu_block.specs.SubAllocator.{block_of};
 ghost use Rattle.gpu_block.specs.Block.{IsSoundBlock, HasPages, HasPagesApart, ReleasesIn};
 ghost use Rattle.gpu_core.specs.TypeState.{slot_size, shared_in};
 ghost use Rattle.gpu_core.specs.TypeRelease.{SlotHolds, IsFreeRefusal, IsNameRefusal, SlotReleases, SlotRenames};
-ghost use Rattle.gpu_core.specs.Slots.{slot_of, Bounds, SlotIsSound, Finds, Settles, released_handle, released_size, released_shared};
+ghost use Rattle.gpu_core.specs.Slots.{slot_of, Bounds, vacancies, SlotIsSound, Finds, Settles, released_handle, released_size, released_shared};
 
 use crate::Piece;
 use gpu_block::SubAllocator;
@@ -29,6 +29,16 @@ pub fn longest_in<H>(slot: &Option<LiveBlock<H>>) -> u64
     match slot {
         Some(block) if block.sub.supports_general_allocations() => block.sub.longest_gap(),
         _ => 0,
+    }
+}
+
+/// How many blocks a slot has a place for: 1 where it is empty.
+pub fn vacancies<H>(slot: &Option<LiveBlock<H>>) -> u64
+    ensures { result ≡ vacancies (option_map slot_of slot.now) }
+{
+    match slot {
+        Some(_) => 0,
+        None => 1,
     }
 }
 

@@ -1,45 +1,51 @@
 //! The slots of a memory type.
 
-ghost use Rattle.std.specs.Prelude.{◌≡◌, ◌≢◌, ℕ, ◌+◌, ◌^◌, ◌<◌, ◌≤◌, ◌||◌, nat_lt, [], length, vec_capacity, if◌then◌else◌, Some, None, IfOk, IfErr, OnOk, OnErr, IfSome, IsNone, IsTrue};
+ghost use Rattle.std.specs.Prelude.{◌≡◌, ◌≢◌, ℕ, ◌+◌, ◌^◌, ◌<◌, ◌≤◌, ◌||◌, nat_lt, [], ◌∷◌, ◌++◌, length, vec_capacity, IfOk, IfErr, OnOk, OnErr, IfSome, IsNone, IsTrue};
 ghost use Rattle.std.specs.Int.{is_power_of_two};
-ghost use Rattle.std.specs.List.{position};
-ghost use Rattle.std.specs.Option.{is_none, is_some};
+ghost use Rattle.std.specs.Option.{is_some};
 ghost use Rattle.gpu_values.specs.declared.error.AllocationError.TheVariants.{HostOutOfMemory};
 ghost use Rattle.gpu_values.specs.Refusal.{refusal_of};
-ghost use Rattle.gpu_core.specs.TypeState.{slot_at, capacity_of, shared_count, lowest_empty, highest_empty};
+ghost use Rattle.gpu_core.specs.TypeState.{slot_at, capacity_of, shared_count, highest_empty};
 ghost use Rattle.gpu_core.specs.TypeRelease.{IsLive, IsFreeRefusal, IsNameRefusal, ReleasesPiece, RenamesPiece};
 ghost use Rattle.gpu_core.specs.TypeTake.{asked, PreparesPiece, NoneServes, NoneServesFrom, new_slot, with_block};
-ghost use Rattle.gpu_core.specs.Slots.{slot_of, slots_of, AreSound, AreBounded, OthersAreBounded, IsEmptyAt, released_handle, released_size, released_shared};
+ghost use Rattle.gpu_core.specs.Slots.{slot_of, slots_of, AreSound, AreNoted, OthersAreNoted, released_handle, released_size, released_shared};
 
-use crate::longest::Longest;
-use crate::slot::{LiveBlock, ReleasedBlock, longest_in, release, rename};
+use crate::marks::Marks;
+use crate::slot::{LiveBlock, ReleasedBlock, longest_in, release, rename, vacancies};
 use crate::{Piece, Request};
 use gpu_block::SubAllocator;
 use gpu_values::{AllocationError, AllocationType, Result, internal_fault};
-use std::alloc::Global;
+use std::alloc::{AllocError, Global};
 use std::marker::Model;
 
-/// The slots of a memory type, each empty or with a live block, and beside them the length of each shared block's longest gap:
-/// a search looks at no block whose gaps are all too short, and passes over runs of such blocks at once.
+/// What is noted of each slot: the length of its shared block's longest gap, and how many blocks it has a place for.
+#[derive(Drop)]
+struct Notes {
+    longest: Marks,
+    vacant: Marks,
+}
+
+/// The slots of a memory type, each empty or with a live block, and what is noted of them: a search looks at no block whose
+/// gaps are all too short and, for an empty slot, at no block, and passes over runs of slots at once.
 #[derive(Drop)]
 pub struct Slots<H> {
     blocks: Vec<Option<LiveBlock<H>>>,
-    longest: Longest,
+    notes: Notes,
 }
 
 impl<H> Model for Slots<H> {
     ghost use Rattle.std.specs.Prelude.{vec_capacity, min};
-    ghost use Rattle.gpu_core.specs.Slots.{SlotList, slots_of, AreBounded};
+    ghost use Rattle.gpu_core.specs.Slots.{SlotList, slots_of, AreNoted};
 
     ghost Value = { SlotList H };
 
     ghost view = { λ s. record {
       slots = slots_of s.blocks.items;
       room = min (vec_capacity s.blocks)
-          s.longest.room;
+          (min s.notes.longest.room s.notes.vacant.room);
     } };
 
-    ghost invariant = { λ s. AreBounded s.longest.lengths (slots_of s.blocks.items) };
+    ghost invariant = { λ s. AreNoted s.notes (slots_of s.blocks.items) };
 }
 
 impl<H: Copy + Eq> Slots<H> {
@@ -49,7 +55,10 @@ impl<H: Copy + Eq> Slots<H> {
     {
         Slots {
             blocks: Vec::new(alloc),
-            longest: Longest::new(alloc),
+            notes: Notes {
+                longest: Marks::new(alloc),
+                vacant: Marks::new(alloc),
+            },
         }
     }
 
@@ -115,7 +124,7 @@ impl<H: Copy + Eq> Slots<H> {
             name,
             ..
         } = *request;
-        let mut below = self.longest.pass_over(self.blocks.len(), size);
+        let mut below = self.notes.longest.pass_over(self.blocks.len(), size);
         while below > first {
             below -= 1;
             if let Some(LiveBlock { handle, sub }) = &mut self.blocks[below] {
@@ -129,7 +138,7 @@ impl<H: Copy + Eq> Slots<H> {
                                 size,
                                 handle: *handle,
                             };
-                            measure(&mut self.longest, &self.blocks, below);
+                            measure(&mut self.notes, &self.blocks, below);
                             return Ok(Some(piece));
                         }
                         Err(AllocationError::OutOfMemory) => (),
@@ -137,7 +146,7 @@ impl<H: Copy + Eq> Slots<H> {
                     }
                 }
             }
-            below = self.longest.pass_over(below, size);
+            below = self.notes.longest.pass_over(below, size);
         }
         Ok(None)
     }
@@ -150,11 +159,34 @@ impl<H: Copy + Eq> Slots<H> {
             self.new.room)) }
         ensures cause { IfErr result (λ e. e ≡ HostOutOfMemory) }
     {
-        if highest_empty(&self.blocks).is_none() {
+        if self.highest_empty().is_none() {
             self.blocks.reserve(1)?;
-            self.longest.reserve()?;
+            self.notes.reserve()?;
         }
         Ok(())
+    }
+
+    /// The highest empty slot.
+    fn highest_empty(&self) -> Option<usize>
+        ensures { result ≡ highest_empty self.now.slots }
+    {
+        match self.notes.vacant.pass_over(self.blocks.len(), 1) {
+            0 => None,
+            end => Some(end - 1),
+        }
+    }
+
+    /// Where a dedicated or a shared block goes.
+    fn new_slot(&self, is_dedicated: bool) -> usize
+        ensures { result ≡ new_slot is_dedicated self.now.slots }
+    {
+        if is_dedicated {
+            return self.notes.vacant.lowest(1);
+        }
+        match self.highest_empty() {
+            Some(slot) => slot,
+            None => self.notes.vacant.len(),
+        }
     }
 
     /// Puts a block where it goes, and answers that slot. It takes no memory.
@@ -166,11 +198,12 @@ impl<H: Copy + Eq> Slots<H> {
         ensures length { length self.new.slots < 2 ^ 64 }
         ensures room { self.new.room ≡ self.old.room }
     {
-        let slot = put_block(&mut self.blocks, block, is_dedicated);
-        if slot == self.longest.len() {
-            self.longest.push();
+        let slot = self.new_slot(is_dedicated);
+        put_block(&mut self.blocks, block, slot);
+        if slot == self.notes.longest.len() {
+            self.notes.push();
         }
-        measure(&mut self.longest, &self.blocks, slot);
+        measure(&mut self.notes, &self.blocks, slot);
         slot
     }
 
@@ -191,7 +224,7 @@ impl<H: Copy + Eq> Slots<H> {
         ensures kept { (g : ℕ) → AreSound g self.old.slots → AreSound g self.new.slots }
     {
         let gone = free_in(&mut self.blocks, piece, several)?;
-        measure(&mut self.longest, &self.blocks, piece.slot);
+        measure(&mut self.notes, &self.blocks, piece.slot);
         Ok(gone)
     }
 
@@ -210,87 +243,64 @@ impl<H: Copy + Eq> Slots<H> {
         ensures kept { (g : ℕ) → AreSound g self.old.slots → AreSound g self.new.slots }
     {
         rename_in(&mut self.blocks, piece, name)?;
-        measure(&mut self.longest, &self.blocks, piece.slot);
+        measure(&mut self.notes, &self.blocks, piece.slot);
         Ok(())
     }
 }
 
-/// Notes the longest gap of a slot's block, after a change of the block.
-fn measure<H>(longest: &mut Longest, slots: &[Option<LiveBlock<H>>], slot: usize)
+impl Notes {
+    /// Makes host memory for one more slot.
+    fn reserve(&mut self) -> Result<(), AllocError>
+        ensures longest { self.new.longest.marks ≡ self.old.longest.marks }
+        ensures vacant { self.new.vacant.marks ≡ self.old.vacant.marks }
+        ensures longest_room { OnOk result
+            (length self.new.longest.marks < self.new.longest.room) }
+        ensures vacant_room { OnOk result (length self.new.vacant.marks < self.new.vacant.room) }
+    {
+        self.longest.reserve()?;
+        self.vacant.reserve()
+    }
+
+    /// Adds a slot. It takes no memory.
+    fn push(&mut self)
+        requires longest { length self.old.longest.marks < self.old.longest.room }
+        requires vacant { length self.old.vacant.marks < self.old.vacant.room }
+        ensures longest { self.new.longest.marks ≡ self.old.longest.marks ++ 0 ∷ [] }
+        ensures vacant { self.new.vacant.marks ≡ self.old.vacant.marks ++ 0 ∷ [] }
+        ensures longest_room { self.new.longest.room ≡ self.old.longest.room }
+        ensures vacant_room { self.new.vacant.room ≡ self.old.vacant.room }
+    {
+        self.longest.push();
+        self.vacant.push();
+    }
+}
+
+/// Notes what is to be known of a slot, after a change of it.
+fn measure<H>(notes: &mut Notes, slots: &[Option<LiveBlock<H>>], slot: usize)
     requires within { slot < length slots.now }
-    requires others { OthersAreBounded slot longest.old.lengths (slots_of slots.now) }
-    ensures bounded { AreBounded longest.new.lengths (slots_of slots.now) }
-    ensures room { longest.new.room ≡ longest.old.room }
+    requires others { OthersAreNoted slot notes.old (slots_of slots.now) }
+    ensures noted { AreNoted notes.new (slots_of slots.now) }
+    ensures longest_room { notes.new.longest.room ≡ notes.old.longest.room }
+    ensures vacant_room { notes.new.vacant.room ≡ notes.old.vacant.room }
 {
-    longest.set(slot, longest_in(&slots[slot]));
+    let measured = &slots[slot];
+    notes.longest.set(slot, longest_in(measured));
+    notes.vacant.set(slot, vacancies(measured));
 }
 
-/// The lowest empty slot.
-#[tactic(auto, using(crate::proofs::EmptySlots::lowest_none))]
-fn lowest_empty<H>(slots: &[Option<LiveBlock<H>>]) -> Option<usize>
-    ensures { result ≡ lowest_empty (slots_of slots.now) }
-{
-    first_none(slots)
-}
-
-fn first_none<H>(slots: &[Option<LiveBlock<H>>]) -> Option<usize>
-    ensures { result ≡ position is_none slots.now }
-{
-    slots.iter().position(|slot| slot.is_none())
-}
-
-/// The highest empty slot.
-fn highest_empty<H>(slots: &[Option<LiveBlock<H>>]) -> Option<usize>
-    ensures { result ≡ highest_empty (slots_of slots.now) }
-{
-    let mut below = slots.len();
-    while below > 0 {
-        below -= 1;
-        if slots[below].is_none() {
-            return Some(below);
-        }
-    }
-    None
-}
-
-/// The empty slot for a dedicated or for a shared block.
-#[tactic(auto, using(crate::proofs::EmptySlots::empty_lemmas))]
-fn empty_for<H>(slots: &[Option<LiveBlock<H>>], is_dedicated: bool) -> Option<usize>
-    ensures value { result ≡ (if is_dedicated then lowest_empty (slots_of slots.now)
-        else highest_empty (slots_of slots.now)) }
-    ensures found { IfSome result (λ i. IsEmptyAt (slots_of slots.now) i) }
-    ensures missed { IsNone result → highest_empty (slots_of slots.now) ≡ None }
-{
-    if is_dedicated {
-        lowest_empty(slots)
-    } else {
-        highest_empty(slots)
-    }
-}
-
-/// Puts a block where it goes, and answers that slot. It takes no memory.
-fn put_block<H: Drop>(
-    slots: &mut Vec<Option<LiveBlock<H>>>,
-    block: LiveBlock<H>,
-    is_dedicated: bool,
-) -> usize
-    requires { IsTrue (is_some (highest_empty (slots_of slots.old.items))
-        || nat_lt (length (slots_of slots.old.items)) (vec_capacity slots.old)) }
-    ensures slot { result ≡ new_slot is_dedicated (slots_of slots.old.items) }
+/// Puts a block into a slot, or behind all. It takes no memory.
+fn put_block<H: Drop>(slots: &mut Vec<Option<LiveBlock<H>>>, block: LiveBlock<H>, slot: usize)
+    requires within { slot ≤ length slots.old.items }
+    requires room { slot ≡ length slots.old.items → slot < vec_capacity slots.old }
     ensures slots { slots_of slots.new.items
-        ≡ with_block (slots_of slots.old.items) result (slot_of block) }
+        ≡ with_block (slots_of slots.old.items) slot (slot_of block) }
     ensures length { length slots.new.items < 2 ^ 64 }
     ensures room { vec_capacity slots.new ≡ vec_capacity slots.old }
 {
-    match empty_for(slots, is_dedicated) {
-        Some(slot) => {
-            slots[slot] = Some(block);
-            slot
-        }
-        None => {
-            slots.push_reserved(Some(block));
-            slots.len() - 1
-        }
+    if slot < slots.len() {
+        slots[slot] = Some(block);
+    } else {
+        slots.push_reserved(Some(block));
     }
 }
 

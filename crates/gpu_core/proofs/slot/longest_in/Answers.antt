@@ -1,5 +1,5 @@
 use Rattle.gpu_block.specs.SubAllocator.{block_of}
-use Rattle.gpu_core.proofs.Bounded.{placeless_block}
+use Rattle.gpu_core.proofs.Noted.{placeless_block}
 use Rattle.gpu_core.proofs.slot.longest_in.Goals as goal
 
 pub returns-in-Some : goal.returns-in-Some

@@ -1,19 +1,16 @@
-use Rattle.std.proofs.Common.{◌≡◌, ◌-◌, rules, sym, subst, length}
+use Rattle.std.proofs.Common.{◌≡◌, length, arith, sym, subst}
 use Rattle.gpu_core.specs.TypeTake.{with_block}
-use Rattle.gpu_core.specs.Slots.{slot_of, slots_of, IsEmptyAt}
+use Rattle.gpu_core.specs.Slots.{slot_of, slots_of}
 use Rattle.gpu_core.proofs.Putting.{put_slots, push_slots}
 use Rattle.gpu_core.proofs.slots.put_block.Goals as goal
 
-pub returns-in-Some-clause-slots : goal.returns-in-Some-clause-slots
-returns-in-Some-clause-slots g c =
-    let slot = c.in-Some.slot in
-    let found : IsEmptyAt (slots_of c.deref.result.now) slot = rw c.in-Some.is at c.empty_for.ensures.found in
-    put_slots c.args.slots.now.items slot c.args.block (subst (λ xs. IsEmptyAt (slots_of xs) slot) c.deref.ensures.value found)
+pub returns-then-slot-len-clause-slots : goal.returns-then-slot-len-clause-slots
+returns-then-slot-len-clause-slots g c = put_slots c.args.slots.now.items c.args.slot c.args.block (omega (arith, c.if-slot-len.true, c.len.ensures))
 
-pub returns-in-None-clause-slots : goal.returns-in-None-clause-slots
-returns-in-None-clause-slots g c =
+pub returns-else-slot-len-clause-slots : goal.returns-else-slot-len-clause-slots
+returns-else-slot-len-clause-slots g c =
     let old = c.args.slots.now.items in
     let new = c.push_reserved.new.self.items in
-    let last : length old ≡ c.len.result - 1 = search rules in
+    let last : length old ≡ c.args.slot = omega (arith, c.requires.within, c.if-slot-len.false, c.len.ensures) in
     let pushed = subst (λ i. slots_of new ≡ with_block (slots_of old) i (slot_of c.args.block)) last in
     pushed (subst (λ xs. slots_of xs ≡ with_block (slots_of old) (length old) (slot_of c.args.block)) (sym c.push_reserved.ensures.items) (push_slots old c.args.block))

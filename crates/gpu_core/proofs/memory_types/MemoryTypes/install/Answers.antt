@@ -3,7 +3,7 @@ use Rattle.gpu_core.specs.Blocks.{total_capacity}
 use Rattle.gpu_core.specs.Budgets.{budgets}
 use Rattle.gpu_core.specs.Types.{Types, type_of, slots_of, kinds, MemoryTypesInvariant}
 use Rattle.gpu_core.proofs.Changed.{element_at, installed}
-use Rattle.gpu_core.proofs.Types.{invariant_set, kinds_set, budgets_set, share_below, type_elsewhere}
+use Rattle.gpu_core.proofs.Types.{invariant_set, sum_kept, kinds_set, budgets_set, share_below, type_elsewhere}
 use Rattle.gpu_core.proofs.memory_types.MemoryTypes.install.Goals as goal
 use Rattle.gpu_core.proofs.memory_types.MemoryTypes.install.Goals.{After-index_mut, After-install}
 
@@ -26,11 +26,19 @@ kept_after g c at =
     let there : c.args.index < length c.self.inside.types.items = subst (λ (ts : Types _). c.args.index < length ts) (sym c.self.view_is) c.requires.there in
     let sum : total_capacity (slots_of c.self.inside.types.items) + c.args.need.size < 2 ^ 64 = subst (λ (ts : Types _). total_capacity (slots_of ts) + c.args.need.size < 2 ^ 64) (sym c.self.view_is)
     c.requires.sum in
-    invariant_set c.self.inside.types.items c.args.index c.index_mut.result.now c.install.new.self at (omega (arith, there)) c.self.invariant c.install.ensures.sound c.install.ensures.empty
+    invariant_set c.self.inside.types.items c.args.index c.index_mut.result.now c.install.new.self at (omega (arith, there)) c.self.invariant.kept c.install.ensures.sound c.install.ensures.empty
     (omega (arith, sum, c.install.ensures.capacity))
 
 pub invariant_of-self : goal.invariant_of-self
-invariant_of-self g c = kept_after g ((goal.at.invariant_of-self g c).After-install) (old_at g ((goal.at.invariant_of-self g c).After-index_mut))
+invariant_of-self g c =
+    let after = (goal.at.invariant_of-self g c).After-install in
+    let at = old_at g ((goal.at.invariant_of-self g c).After-index_mut) in
+    let there : c.args.index < length c.self.inside.types.items = subst (λ (ts : Types _). c.args.index < length ts) (sym c.self.view_is) c.requires.there in
+    record {
+      kept = kept_after g after at;
+      sum_is = sum_kept c.self.inside.types.items c.args.index c.index_mut.result.now c.install.new.self c.self.inside.capacity (c.self.inside.capacity + c.args.need.size) at there c.self.invariant.sum_is
+          (omega (arith, c.install.ensures.capacity));
+    }
 
 pub returns-clause-kept : goal.returns-clause-kept
 returns-clause-kept g c = kept_after g ((goal.at.returns-clause-kept g c).After-install) (old_at g ((goal.at.returns-clause-kept g c).After-index_mut))

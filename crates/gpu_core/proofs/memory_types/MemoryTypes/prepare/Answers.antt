@@ -6,7 +6,7 @@ use Rattle.gpu_core.specs.Requests.{refusal_of_need}
 use Rattle.gpu_core.specs.Types.{Types, type_of, slots_of, kinds, MemoryTypesInvariant}
 use Rattle.gpu_core.proofs.Changed.{element_at, prepared_at, same_slots, limits_refused, limits_cause}
 use Rattle.gpu_core.proofs.Options.{on_any_error}
-use Rattle.gpu_core.proofs.Types.{invariant_set, kinds_set, budgets_set, share_below, type_elsewhere}
+use Rattle.gpu_core.proofs.Types.{invariant_set, sum_kept, kinds_set, budgets_set, share_below, type_elsewhere}
 use Rattle.gpu_core.proofs.memory_types.MemoryTypes.prepare.Goals as goal
 use Rattle.gpu_core.proofs.memory_types.MemoryTypes.prepare.Goals.{After-prepare}
 
@@ -19,16 +19,25 @@ kept_after : (g : _) (c : After-prepare g) → MemoryTypesInvariant (slice_set c
 kept_after g c =
     let at = old_at g c in
     let there : c.args.index < length c.self.inside.types.items = subst (λ (ts : Types _). c.args.index < length ts) (sym c.self.view_is) c.requires.there in
-    let sum = c.self.invariant.sum in
+    let sum = c.self.invariant.kept.sum in
     let share = share_below c.self.inside.types.items c.args.index c.index_mut-memory_type.result.now at in
-    invariant_set c.self.inside.types.items c.args.index c.index_mut-memory_type.result.now c.prepare.new.self at (omega (arith, there)) c.self.invariant c.prepare.ensures.sound c.prepare.ensures.empty
+    invariant_set c.self.inside.types.items c.args.index c.index_mut-memory_type.result.now c.prepare.new.self at (omega (arith, there)) c.self.invariant.kept c.prepare.ensures.sound c.prepare.ensures.empty
     (omega (arith, sum, share, c.prepare.ensures.capacity))
 
+sum_after : (g : _) (c : After-prepare g) → c.self.inside.capacity ≡ total_capacity (slots_of (slice_set c.self.inside.types.items c.args.index c.prepare.new.self))
+sum_after g c =
+    sum_kept c.self.inside.types.items c.args.index c.index_mut-memory_type.result.now c.prepare.new.self c.self.inside.capacity c.self.inside.capacity (old_at g c) (let there : c.args.index < length c.self.inside.types.items = subst (λ (ts : Types _). c.args.index < length ts) (sym c.self.view_is) c.requires.there in omega (arith, there)) c.self.invariant.sum_is
+    (omega (arith, c.prepare.ensures.capacity))
+
 pub invariant_of-self : goal.invariant_of-self
-invariant_of-self g c = kept_after g ((goal.at.invariant_of-self g c).After-prepare)
+invariant_of-self g c =
+    let after = (goal.at.invariant_of-self g c).After-prepare in
+    record { kept = kept_after g after; sum_is = sum_after g after }
 
 pub invariant_of-self-2 : goal.invariant_of-self-2
-invariant_of-self-2 g c = kept_after g ((goal.at.invariant_of-self-2 g c).After-prepare)
+invariant_of-self-2 g c =
+    let after = (goal.at.invariant_of-self-2 g c).After-prepare in
+    record { kept = kept_after g after; sum_is = sum_after g after }
 
 pub returns-in_err-prepared-clause-kept : goal.returns-in_err-prepared-clause-kept
 returns-in_err-prepared-clause-kept g c = kept_after g ((goal.at.returns-in_err-prepared-clause-kept g c).After-prepare)

@@ -1,8 +1,9 @@
 use Rattle.std.proofs.Common.{◌≡◌, Some, arith, slice_get, slice_set, ap, ◌∙◌}
+use Rattle.gpu_core.specs.Blocks.{total_capacity}
 use Rattle.gpu_core.specs.Budgets.{budgets}
-use Rattle.gpu_core.specs.Types.{Types, type_of, kinds, MemoryTypesInvariant}
+use Rattle.gpu_core.specs.Types.{slots_of, Types, type_of, kinds, MemoryTypesInvariant}
 use Rattle.gpu_core.proofs.Changed.{element_at, renamed, named_cause}
-use Rattle.gpu_core.proofs.Types.{invariant_set, kinds_set, budgets_set, share_below, type_elsewhere}
+use Rattle.gpu_core.proofs.Types.{invariant_set, sum_kept, kinds_set, budgets_set, share_below, type_elsewhere}
 use Rattle.gpu_core.proofs.memory_types.MemoryTypes.rename.Goals as goal
 use Rattle.gpu_core.proofs.memory_types.MemoryTypes.rename.Goals.{After-rename}
 
@@ -12,13 +13,20 @@ old_at g c = element_at c.self.inside.types.items c.args.index c.index_mut.resul
 kept_after : (g : _) (c : After-rename g) → MemoryTypesInvariant (slice_set c.self.inside.types.items c.args.index c.rename.new.self)
 kept_after g c =
     let at = old_at g c in
-    let sum = c.self.invariant.sum in
+    let sum = c.self.invariant.kept.sum in
     let share = share_below c.self.inside.types.items c.args.index c.index_mut.result.now at in
-    invariant_set c.self.inside.types.items c.args.index c.index_mut.result.now c.rename.new.self at (omega (arith, c.if-index-len.false, c.len.ensures)) c.self.invariant c.rename.ensures.sound c.rename.ensures.empty
+    invariant_set c.self.inside.types.items c.args.index c.index_mut.result.now c.rename.new.self at (omega (arith, c.if-index-len.false, c.len.ensures)) c.self.invariant.kept c.rename.ensures.sound c.rename.ensures.empty
     (omega (arith, sum, share, c.rename.ensures.capacity))
 
+sum_after : (g : _) (c : After-rename g) → c.self.inside.capacity ≡ total_capacity (slots_of (slice_set c.self.inside.types.items c.args.index c.rename.new.self))
+sum_after g c =
+    sum_kept c.self.inside.types.items c.args.index c.index_mut.result.now c.rename.new.self c.self.inside.capacity c.self.inside.capacity (old_at g c) (omega (arith, c.if-index-len.false, c.len.ensures)) c.self.invariant.sum_is
+    (omega (arith, c.rename.ensures.capacity))
+
 pub invariant_of-self : goal.invariant_of-self
-invariant_of-self g c = kept_after g ((goal.at.invariant_of-self g c).After-rename)
+invariant_of-self g c =
+    let after = (goal.at.invariant_of-self g c).After-rename in
+    record { kept = kept_after g after; sum_is = sum_after g after }
 
 pub returns-clause-kept : goal.returns-clause-kept
 returns-clause-kept g c = kept_after g ((goal.at.returns-clause-kept g c).After-rename)

@@ -2,10 +2,11 @@ use Rattle.std.proofs.Common.{◌≡◌, ◌∙◌, Some, sym, subst, ap, arith,
 use Rattle.std.proofs.lemmas.List.{length-map, map-set}
 use Rattle.std.proofs.lemmas.Grind.{common_steps}
 use Rattle.gpu_core.specs.TypeState.{TypeState, capacity_of}
+use Rattle.gpu_core.specs.Blocks.{total_capacity}
 use Rattle.gpu_core.specs.Budgets.{budgets}
 use Rattle.gpu_core.specs.Types.{slots_of, kinds, MemoryTypesInvariant}
 use Rattle.gpu_core.proofs.Changed.{element_at, same_slots}
-use Rattle.gpu_core.proofs.Types.{invariant_set, kinds_set, each_at, WellFormed, OneEmpty}
+use Rattle.gpu_core.proofs.Types.{invariant_set, sum_kept, kinds_set, each_at, WellFormed, OneEmpty}
 use Rattle.gpu_core.proofs.memory_types.MemoryTypes.set_budget.Goals.{After-set_budget}
 use Rattle.gpu_core.proofs.memory_types.MemoryTypes.set_budget.Goals as goal
 
@@ -22,15 +23,22 @@ kept_after : (g : _) (c : After-set_budget g) → MemoryTypesInvariant (slice_se
 kept_after g c =
     let types = c.self.inside.types.items in
     let at = old_at g c in
-    let was : WellFormed c.index_mut.result.now = each_at WellFormed types c.args.index c.index_mut.result.now c.self.invariant.well_formed at in
-    let sum = c.self.invariant.sum in
+    let was : WellFormed c.index_mut.result.now = each_at WellFormed types c.args.index c.index_mut.result.now c.self.invariant.kept.well_formed at in
+    let sum = c.self.invariant.kept.sum in
     let same = ap (λ (t : TypeState _). capacity_of t.slots) c.set_budget.ensures in
-    invariant_set types c.args.index c.index_mut.result.now c.set_budget.new.self at (below g c) c.self.invariant
-    (subst WellFormed (sym c.set_budget.ensures) was) (subst OneEmpty (sym c.set_budget.ensures) (each_at OneEmpty types c.args.index c.index_mut.result.now c.self.invariant.empty at))
+    invariant_set types c.args.index c.index_mut.result.now c.set_budget.new.self at (below g c) c.self.invariant.kept
+    (subst WellFormed (sym c.set_budget.ensures) was) (subst OneEmpty (sym c.set_budget.ensures) (each_at OneEmpty types c.args.index c.index_mut.result.now c.self.invariant.kept.empty at))
     (omega (arith, sum, same))
 
+sum_after : (g : _) (c : After-set_budget g) → c.self.inside.capacity ≡ total_capacity (slots_of (slice_set c.self.inside.types.items c.args.index c.set_budget.new.self))
+sum_after g c =
+    sum_kept c.self.inside.types.items c.args.index c.index_mut.result.now c.set_budget.new.self c.self.inside.capacity c.self.inside.capacity (old_at g c) (below g c) c.self.invariant.sum_is
+    (let same = ap (λ (t : TypeState _). capacity_of t.slots) c.set_budget.ensures in omega (arith, same))
+
 pub invariant_of-self : goal.invariant_of-self
-invariant_of-self g c = kept_after g ((goal.at.invariant_of-self g c).After-set_budget)
+invariant_of-self g c =
+    let after = (goal.at.invariant_of-self g c).After-set_budget in
+    record { kept = kept_after g after; sum_is = sum_after g after }
 
 pub returns-clause-kept : goal.returns-clause-kept
 returns-clause-kept g c = kept_after g ((goal.at.returns-clause-kept g c).After-set_budget)

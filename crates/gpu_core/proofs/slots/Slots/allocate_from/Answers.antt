@@ -17,8 +17,8 @@ use Rattle.gpu_core.specs.declared.slots.Slots.TheInside.{Inside}
 use Rattle.gpu_block_pieces.specs.Request.{Request}
 use Rattle.gpu_block_pieces.specs.FreeList as lists
 use Rattle.gpu_block.specs.SubAllocator.{block_of}
-use Rattle.gpu_core.specs.Slots.{slot_of, slots_of, SlotIsSound, AreSound, AreBounded, OthersAreBounded}
-use Rattle.gpu_core.proofs.Bounded.{others_kept}
+use Rattle.gpu_core.specs.Slots.{slot_of, slots_of, SlotIsSound, AreSound, AreNoted, OthersAreNoted}
+use Rattle.gpu_core.proofs.Noted.{others_kept}
 use Rattle.gpu_core.proofs.Passing.{none_behind, none_passed}
 use Rattle.gpu_core.proofs.Slotted.{Edits, edits, none_from, prepares, edited_sound}
 use Rattle.gpu_core.proofs.slots.Slots.allocate_from.Goals as goal
@@ -52,8 +52,8 @@ loop-below-init g c =
       within = omega (arith, c.pass_over-below.ensures.within, c.len.ensures);
       same = refl;
       room = refl;
-      longest = refl;
-      above = none_passed c.self.inside.longest.lengths slots (asked c.args.request.now) c.pass_over-below.result (length slots) c.self.invariant
+      notes = refl;
+      above = none_passed c.self.inside.notes slots (asked c.args.request.now) c.pass_over-below.result (length slots) c.self.invariant
           (λ i from lt. c.pass_over-below.ensures.passed i from (omega (arith, n, lt, c.len.ensures))) (none_behind slots (asked c.args.request.now));
     }
 
@@ -62,15 +62,15 @@ record IsPassed {H : Type 0} (old : Inside H) (i : ℕ) (r : Request) (new : Ins
   length_is : length new.blocks.items ≡ length old.blocks.items
   same : slots_of new.blocks.items ≡ slots_of old.blocks.items
   room : vec_capacity new.blocks ≡ vec_capacity old.blocks
-  longest : new.longest ≡ old.longest
+  notes : new.notes ≡ old.notes
   none : CannotServe r (slot_at (slots_of old.blocks.items) i)
 
 passed : {H : Type 0} (old : Inside H) (i : ℕ) (read new : Option (LiveBlock H)) (r : Request) (after : Inside H) → i < length old.blocks.items → read ≡ slice_index_or old.blocks.items i read
-    → after ≡ record { blocks = with_item old.blocks i new; longest = old.longest } → option_map slot_of new ≡ option_map slot_of read → CannotServe r (option_map slot_of read) → IsPassed old i r after
+    → after ≡ record { blocks = with_item old.blocks i new; notes = old.notes } → option_map slot_of new ≡ option_map slot_of read → CannotServe r (option_map slot_of read) → IsPassed old i r after
 passed old i read new r after below is e same none =
     let d = edits old.blocks.items i read new below is in
     subst (IsPassed old i r) (sym e)
-    (record { length_is = length-set old.blocks.items i new; same = d.same same; room = refl; longest = refl; none = subst (CannotServe r) (sym d.before) none })
+    (record { length_is = length-set old.blocks.items i new; same = d.same same; room = refl; notes = refl; none = subst (CannotServe r) (sym d.before) none })
 
 -- the two refusals of a free list
 only_host_memory : (b : lists.FreeList) (r : Request) (e : AllocationError) → IsAllocateRefusal b r e → (e ≡ errors.OutOfMemory → ⊥) → e ≡ errors.HostOutOfMemory
@@ -112,8 +112,8 @@ is_passed g c =
 pub pass_over-below-requires-in-loop-below : goal.pass_over-below-requires-in-loop-below
 pass_over-below-requires-in-loop-below g c =
     let p = is_passed g (goal.at.pass_over-below-requires-in-loop-below g c).After-pass_over-arg-in-loop-below-1 in
-    let lengths = ap (λ l. length l.lengths) (p.longest ∙ c.loop-below.invariant.longest) in
-    let many = c.self.invariant.length_is in
+    let lengths = ap (λ n. length n.longest.marks) (p.notes ∙ c.loop-below.invariant.notes) in
+    let many = c.self.invariant.as_long in
     let items = sym (length-map c.self.inside.blocks.items (option_map slot_of)) ∙ ap length (sym c.loop-below.invariant.same) ∙ length-map c.loop-below.self-inside.blocks.items (option_map slot_of) in
     let map = length-map c.self.inside.blocks.items (option_map slot_of) in
     omega (arith, lengths, many, items, map, c.loop-below.invariant.within)
@@ -123,16 +123,16 @@ loop-below-preserved g c =
     let p = is_passed g (goal.at.loop-below-preserved g c).After-pass_over-arg-in-loop-below-1 in
     let slots = slots_of c.self.inside.blocks.items in
     let r = asked c.args.request.now in
-    let lengths = p.longest ∙ c.loop-below.invariant.longest in
+    let lengths = p.notes ∙ c.loop-below.invariant.notes in
     let over = c.pass_over-below-in-loop-below.ensures in
     let none : CannotServe r (slot_at slots (c.loop-below.below - 1)) = subst (λ s. CannotServe r (slot_at s (c.loop-below.below - 1))) c.loop-below.invariant.same p.none in
     record {
       within = omega (arith, p.length_is, over.within, c.loop-below.invariant.within);
       same = p.same ∙ c.loop-below.invariant.same;
       room = p.room ∙ c.loop-below.invariant.room;
-      longest = lengths;
-      above = none_passed c.self.inside.longest.lengths slots r c.pass_over-below-in-loop-below.result (c.loop-below.below - 1) c.self.invariant
-          (subst (λ l. (i : ℕ) → c.pass_over-below-in-loop-below.result ≤ i → i < c.loop-below.below - 1 → slice_index l.lengths i < r.size) lengths over.passed)
+      notes = lengths;
+      above = none_passed c.self.inside.notes slots r c.pass_over-below-in-loop-below.result (c.loop-below.below - 1) c.self.invariant
+          (subst (λ l. (i : ℕ) → c.pass_over-below-in-loop-below.result ≤ i → i < c.loop-below.below - 1 → slice_index l.longest.marks i < r.size) lengths over.passed)
           (none_from slots r c.loop-below.below (omega (arith, c.loop-below-test.true)) c.loop-below.invariant.above none);
     }
 
@@ -151,10 +151,10 @@ measure-requires-clause-others g c =
     let items = c.loop-below.self-inside.blocks.items in
     let new = after_call g (goal.at.measure-requires-clause-others g c).After-allocate in
     let e = call_edits g (goal.at.measure-requires-clause-others g c).After-allocate in
-    let bounded : AreBounded c.loop-below.self-inside.longest.lengths (slots_of items) =
-    subst (λ l. AreBounded l.lengths (slots_of items)) (sym c.loop-below.invariant.longest) (subst (AreBounded c.self.inside.longest.lengths) (sym c.loop-below.invariant.same) c.self.invariant) in
-    subst (λ xs. OthersAreBounded i c.loop-below.self-inside.longest.lengths (slots_of xs)) (sym c.deref.ensures.value)
-    (others_kept c.loop-below.self-inside.longest.lengths (slots_of items) i (option_map slot_of new) (slots_of (slice_set items i new)) bounded e.slots)
+    let bounded : AreNoted c.loop-below.self-inside.notes (slots_of items) =
+    subst (λ n. AreNoted n (slots_of items)) (sym c.loop-below.invariant.notes) (subst (AreNoted c.self.inside.notes) (sym c.loop-below.invariant.same) c.self.invariant) in
+    subst (λ xs. OthersAreNoted i c.loop-below.self-inside.notes (slots_of xs)) (sym c.deref.ensures.value)
+    (others_kept c.loop-below.self-inside.notes (slots_of items) i (option_map slot_of new) (slots_of (slice_set items i new)) bounded e.slots)
 
 pub returns-in-Ok-clause-took : goal.returns-in-Ok-clause-took
 returns-in-Ok-clause-took g c =
@@ -189,11 +189,15 @@ same_after g c =
     let f = goal.at.returns-in-Err g c in
     (call_edits g f.After-allocate).same (ap (λ b. Some (record { handle = c.in-Some.field-0.handle; block = free_list b })) c.in-Err.ensures.refused ∙ sym (ap (option_map slot_of) (free_list_here g f.In-FreeList)))
 
+pub invariant_of-self : goal.invariant_of-self
+invariant_of-self g c =
+    subst (λ n. AreNoted n (slots_of c.loop-below.self-inside.blocks.items)) (sym c.loop-below.invariant.notes) (subst (AreNoted c.self.inside.notes) (sym c.loop-below.invariant.same) c.self.invariant)
+
 pub invariant_of-self-in-Err : goal.invariant_of-self-in-Err
 invariant_of-self-in-Err g c =
-    subst (AreBounded c.loop-below.self-inside.longest.lengths) (sym (same_after g c))
-    (subst (λ l. AreBounded l.lengths (slots_of c.loop-below.self-inside.blocks.items)) (sym c.loop-below.invariant.longest)
-    (subst (AreBounded c.self.inside.longest.lengths) (sym c.loop-below.invariant.same) c.self.invariant))
+    subst (AreNoted c.loop-below.self-inside.notes) (sym (same_after g c))
+    (subst (λ n. AreNoted n (slots_of c.loop-below.self-inside.blocks.items)) (sym c.loop-below.invariant.notes)
+    (subst (AreNoted c.self.inside.notes) (sym c.loop-below.invariant.same) c.self.invariant))
 
 pub returns-in-Err : goal.returns-in-Err
 returns-in-Err g c =
@@ -204,6 +208,6 @@ returns-in-Err g c =
       none = tt;
       cause = only_host_memory c.in-FreeList.list.block (asked c.args.request.now) c.in-Err.error c.in-Err.ensures.cause (λ is. c.in-Err.in-Err-own.refused-1.1 (rw is refl));
       refused = slots ∙ ap (λ t. t.slots) c.self.view_is;
-      room = ap (λ n. min n c.loop-below.self-inside.longest.room) c.loop-below.invariant.room ∙ ap (λ l. min (vec_capacity c.self.inside.blocks) l.room) c.loop-below.invariant.longest ∙ ap (λ t. t.room) c.self.view_is;
+      room = ap (λ n. min n (min c.loop-below.self-inside.notes.longest.room c.loop-below.self-inside.notes.vacant.room)) c.loop-below.invariant.room ∙ ap (λ n. min (vec_capacity c.self.inside.blocks) (min n.longest.room n.vacant.room)) c.loop-below.invariant.notes ∙ ap (λ t. t.room) c.self.view_is;
       kept = subst (AreSound c.args.granularity) (sym (same_after g c)) (sound_slots g f.After-index_mut);
     }

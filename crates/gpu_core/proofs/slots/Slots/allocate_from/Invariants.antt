@@ -9,7 +9,7 @@ invariant-loop-below g l = record {
   within : l.below ≤ length l.self-inside.blocks.items;
   same : slots_of l.self-inside.blocks.items ≡ slots_of l.initial.self-inside.blocks.items;
   room : vec_capacity l.self-inside.blocks ≡ vec_capacity l.initial.self-inside.blocks;
-  longest : l.self-inside.longest ≡ l.initial.self-inside.longest;
+  notes : l.self-inside.notes ≡ l.initial.self-inside.notes;
   above : (i : ℕ) → l.below ≤ i → CannotServe (asked l.request) (slot_at (slots_of l.initial.self-inside.blocks.items) i);
 }
 
