@@ -3,6 +3,7 @@
 
 mod bytes;
 mod counting;
+mod defragmentation;
 mod log_lines;
 mod moves;
 mod refused;

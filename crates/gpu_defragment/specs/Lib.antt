@@ -1,0 +1,2 @@
+pub mod Defragmentation
+pub mod Ends
