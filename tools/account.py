@@ -192,6 +192,23 @@ class Allocator:
         extent = block.take(size, alignment, kind, name)
         return Allocation(of_type, of_type.put(block), extent)
 
+    def in_block_ahead(self, key, to, size, alignment, kind, name):
+        """Binds a second place of the key's allocation, by its request again, in the highest block above its own that has a place."""
+        if key not in self.bound:
+            raise Refused("unbound")
+        if to in self.bound:
+            raise Refused("busy")
+        got = self.bound[key]
+        if size == 0 or not is_power_of_two(alignment) or not got.extent or size != got.extent.end - got.extent.offset:
+            raise Refused("error E4")
+        for slot in range(len(got.of_type.slots) - 1, got.slot, -1):
+            block = got.of_type.slots[slot]
+            extent = block.take(size, alignment, kind, name.encode()) if block and not isinstance(block, Dedicated) else None
+            if extent:
+                self.bound[to] = Allocation(got.of_type, slot, extent)
+                return self.bound[to]
+        raise Refused("none")
+
     def give_back(self, got):
         """The piece goes, and its block with it where that is left empty and isn't the only shared one of its memory type."""
         block, several = got.block(), len(got.of_type.shared()) > 1
@@ -312,6 +329,18 @@ class Device(Allocator):
         except Refused as why:
             return f"error {why}"
         self.bound[key] = got
+        return self.told(got, size, scheme)
+
+    def move(self, key, to, size, alignment, _bits, _location, kind, scheme, name):
+        try:
+            if scheme != "managed" and key in self.bound and to not in self.bound:
+                raise Refused("error E4")
+            got = self.in_block_ahead(key, to, int(size), int(alignment), KINDS[kind], name)
+        except Refused as why:
+            return str(why)
+        return self.told(got, size, scheme)
+
+    def told(self, got, size, scheme):
         flags = str(scheme != "managed").lower(), str(bool(got.of_type.flags & HOST_VISIBLE)).lower()
         place = f"type {got.of_type.index} slot {got.slot} offset {got.extent.offset} size {size} chunk {got.extent.number}"
         return f"ok {place} dedicated {flags[0]} mapped {flags[1]}"
@@ -396,6 +425,17 @@ class Numbered(Allocator):
         except Refused as why:
             return f"error {why}"
         self.bound[key] = got
+        return self.place_told(got, size)
+
+    def moved(self, key, to, size, alignment, name):
+        """The same of a second place."""
+        try:
+            got = self.in_block_ahead(key, to, size, alignment, "Linear", name)
+        except Refused as why:
+            return str(why)
+        return self.place_told(got, size)
+
+    def place_told(self, got, size):
         return f"ok {place_of(got)} size {size} chunk {got.extent.number} heap {got.block().handle}"
 
 
@@ -454,6 +494,9 @@ class Metal(Numbered):
 
     def alloc(self, key, size, alignment, location, name):
         return self.bind(key, self.type_for(location), int(size), int(alignment), name)
+
+    def move(self, key, to, size, alignment, _location, name):
+        return self.moved(key, to, int(size), int(alignment), name)
 
     def told(self, key, location, size, name):
         """A piece of the size that the device tells."""
@@ -578,6 +621,9 @@ class D3D12(Numbered):
 
     def alloc(self, key, size, alignment, location, category, name):
         return self.bind(key, self.type_for(location, category), int(size), int(alignment), name)
+
+    def move(self, key, to, size, alignment, _location, _category, name):
+        return self.moved(key, to, int(size), int(alignment), name)
 
     def create(self, key, place, location, category, _dimension, width, _height, _depth, _flags, initial, formats, clear, name):
         if key in self.resources:

@@ -59,7 +59,7 @@ class AllocatorTrace:
     FIRST, CODES, LAST = 1, [], []
 
     def __init__(self, seed, commands):
-        self.rng, self.live = random.Random(seed), []
+        self.rng, self.live, self.sizes = random.Random(seed), [], {}
         self.lines = [*self.begin(), *self.sizes_line(), *self.refuse_lines(), *self.settings(), "new"]
         self.lines += [self.command(key) for key in range(commands)]
         self.lines += [*self.LAST, ""]
@@ -89,6 +89,17 @@ class AllocatorTrace:
         return f"free {old}"
 
 
+    def second_place(self, key, old):
+        """A move of an allocation: its number, another, and mostly its own size and some alignment."""
+        rng, to = self.rng, key + 2000000
+        asked = self.sizes.get(old, 1) if rng.random() < 0.95 else size(rng, 4 * MB)
+        if rng.random() < 0.1:
+            old = rng.choice([key + 1000000, old])
+            to = rng.choice([old, key])
+        self.sizes[to] = asked
+        return f"move {old} {to} {asked} {alignment(rng, 256)}", to
+
+
 class DeviceTrace(AllocatorTrace):
     """With memory types and a page size."""
 
@@ -96,7 +107,7 @@ class DeviceTrace(AllocatorTrace):
 
     def begin(self):
         rng = self.rng
-        self.page, self.types, self.sizes = rng.choice([1, 1, 64, 1024]), rng.choice(TYPES), {}
+        self.page, self.types = rng.choice([1, 1, 64, 1024]), rng.choice(TYPES)
         heaps = [f"heap {it * MB}" for it in (rng.choice([64, 512]), rng.choice([128, 1024]))]
         return heaps + [f"type {it}" for it in self.types] + [f"granularity {self.page}"]
 
@@ -111,6 +122,11 @@ class DeviceTrace(AllocatorTrace):
 
     def other(self, key, old):
         rng = self.rng
+        if rng.random() < 0.3:
+            words, to = self.second_place(key, old)
+            self.live.append(to)
+            kind, scheme = rng.choice(["linear", "nonlinear"]), "managed" if rng.random() < 0.95 else "buffer:1"
+            return f"{words} {rng.randrange(8)} {rng.choice(LOCATIONS)} {kind} {scheme} moved-{key}"
         at, length = rng.choice([0, 0, rng.randint(0, self.sizes.get(old, 1) + 4)]), rng.choice([1, 4, 16, 64, 4096])
         index, kept = rng.randrange(len(self.types) + 1), rng.choice(["none", "0", str(rng.randint(1, 20) * 4 * MB)])
         return rng.choice([
@@ -139,14 +155,22 @@ class MetalTrace(AllocatorTrace):
     def request(self, key):
         rng, asked, location = self.rng, size(self.rng, 4 * MB), self.rng.choice(LOCATIONS)
         self.live.append(key)
+        self.sizes[key] = asked
         mode = rng.choice(["shared", "managed", "private", "memoryless", "other:7"])
-        return rng.choice([
+        sort = rng.randrange(4)
+        if sort in (1, 2):
+            self.sizes[key] = min(max(-(-asked // 256), 1), (1 << 56) - 1) * 256
+        return [
             f"alloc {key} {asked} {alignment(rng, 1)} {location} piece-{key}", f"buffer {key} {asked} {location} buffer-{key}",
             f"structure {key} {asked} {location} structure-{key}",
-            f"texture {key} {mode} {rng.choice([0, 1, 100, 2000, 1 << 40])} {rng.randint(0, 3000)} {rng.choice([1, 4, 16])} texture-{key}"])
+            f"texture {key} {mode} {rng.choice([0, 1, 100, 2000, 1 << 40])} {rng.randint(0, 3000)} {rng.choice([1, 4, 16])} texture-{key}"][sort]
 
     def other(self, key, old):
         rng = self.rng
+        if rng.random() < 0.3:
+            words, to = self.second_place(key, old)
+            self.live.append(to)
+            return f"{words} {rng.choice(LOCATIONS)} moved-{key}"
         index, kept = rng.randrange(4), rng.choice(["none", "0", str(rng.randint(1, 20) * 4 * MB)])
         return rng.choice(["commit", "commit", "members", "committed", "heaps", "asked", "report", "capacity", f"budget {index} {kept}",
                            f"free {key + 1000000}", f"alloc {old} 1 1 Unknown twice", f"texture {old} other:1 1 1 1 twice"])
@@ -174,7 +198,8 @@ class D3D12Trace(AllocatorTrace):
         rng, location, category = self.rng, self.rng.choice(LOCATIONS), self.rng.choice(["buffer", "target", "texture"])
         if rng.random() < 0.5:
             self.live.append(("free", key))
-            return f"alloc {key} {size(rng, 4 * MB)} {alignment(rng, 65536)} {location} {category} piece-{key}"
+            self.sizes[key] = size(rng, 4 * MB)
+            return f"alloc {key} {self.sizes[key]} {alignment(rng, 65536)} {location} {category} piece-{key}"
         self.live.append(("release", key))
         return f"create {key} {rng.choice(['placed', 'committed'])} {location} {category} {self.description()} resource-{key}"
 
@@ -193,6 +218,10 @@ class D3D12Trace(AllocatorTrace):
 
     def other(self, key, old):
         rng, (verb, number) = self.rng, old
+        if verb == "free" and rng.random() < 0.4:
+            words, to = self.second_place(key, number)
+            self.live.append(("free", to))
+            return f"{words} {rng.choice(LOCATIONS)} {rng.choice(['buffer', 'target', 'texture'])} moved-{key}"
         index, kept = rng.randrange(10), rng.choice(["none", "0", str(rng.randint(1, 20) * 4 * MB)])
         twice = {"free": f"alloc {number} 1 1 Unknown buffer twice",
                  "release": f"create {number} placed Unknown buffer buffer 1 1 1 0 state:0 none none twice"}[verb]

@@ -18,13 +18,16 @@ use Rattle.gpu_pool.specs.Reply.{Reply}
 use Rattle.gpu_pool.specs.State as pools_state
 use Rattle.gpu_pool.specs.Step as calls
 use Rattle.gpu_pool.specs.Step.{Makes}
+use Rattle.gpu_pool.specs.Allocation.{piece_of}
 use Rattle.gpu_d3d12.specs.Allocate.{is_valid}
 use Rattle.gpu_d3d12.specs.Blocks.{is_same_heap}
+use Rattle.gpu_d3d12.specs.Describe.{request_of}
+use Rattle.gpu_d3d12.specs.Live.{Allocation}
 use Rattle.gpu_d3d12.specs.Reply as module_replies
 use Rattle.gpu_d3d12.specs.Source.{heap_result}
 use Rattle.gpu_d3d12.specs.State.{Basis, Seen, Model}
 use Rattle.gpu_d3d12.specs.Step as model
-use Rattle.gpu_d3d12.specs.Step.{AllocatesBy, IsPoolCall, OfPool, SeesQuestion, SeesHeapFreed, SeesMade, SeesReleased}
+use Rattle.gpu_d3d12.specs.Step.{AllocatesBy, is_again, IsPoolCall, OfPool, SeesQuestion, SeesHeapFreed, SeesMade, SeesReleased}
 use Rattle.gpu_run.specs.D3D12Session.{refused_by_heap, refused_by_resource, refused_after}
 
 abbrev pub PoolModel : Type 0
@@ -124,6 +127,11 @@ module _ (basis : Basis) where
   allocates_sees d false met reply old new h = unmet met old.source new.source h.0 (quiet_sees old.source new.source (ap (λ s. s.source) h.2))
   allocates_sees d true met reply old new h = pool_sees (calls.Allocate _) met reply old new h.2
 
+  moves_sees : (a : Allocation) (d : AllocationCreateDesc) (again : Bool) (met : Environment ID3D12Heap) (reply : Reply ID3D12Heap) (old new : PoolModel)
+      → model.ProposesBy (SeesQuestion basis.tier) SeesHeapFreed SeesMade SeesReleased basis a d again met reply old new → Sees met old.source new.source
+  moves_sees a d false met reply old new h = unmet met old.source new.source h.0 (quiet_sees old.source new.source (ap (λ s. s.source) h.2))
+  moves_sees a d true met reply old new h = pool_sees (calls.ProposeMove a.memory_type_index (piece_of a) (request_of d)) met reply old new h
+
   -- ---- a call that asks for no resource
 
   -- what such a call met with and leaves
@@ -149,6 +157,10 @@ module _ (basis : Basis) where
   pub allocate_leaves : (d : AllocationCreateDesc) (met : model.Environment) (reply : module_replies.Reply) (old new : Model)
       → model.Step basis (model.Allocate d) met reply old new → Leaves met old new
   allocate_leaves d met reply old new h = leaves met old new h.0 (allocates_sees d (is_valid d) met.pool h.1 old.pool new.pool h.3) h.4
+
+  pub move_leaves : (a : Allocation) (d : AllocationCreateDesc) (met : model.Environment) (reply : module_replies.Reply) (old new : Model)
+      → model.Step basis (model.ProposeMove a d) met reply old new → Leaves met old new
+  move_leaves a d met reply old new h = leaves met old new h.0 (moves_sees a d (is_again a d) met.pool h.1 old.pool new.pool h.3) h.4
 
   pub looked_leaves : (t : ℕ) (met : model.Environment) (reply : module_replies.Reply) (old new : Model) → model.Step basis (model.Statistics t) met reply old new → Leaves met old new
   looked_leaves t met reply old new h = record {

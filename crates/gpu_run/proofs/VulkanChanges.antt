@@ -13,7 +13,7 @@ use Rattle.gpu_vulkan.specs.ByteView.{AllocationId, is_same_id, ByteView, IsOutO
 use Rattle.gpu_vulkan.specs.Live.{piece_of}
 use Rattle.gpu_vulkan.specs.Setup.{Setup}
 use Rattle.gpu_vulkan.specs.Reply as answers
-use Rattle.gpu_vulkan.specs.Step.{ModelState, CallEnvironment, Step, Allocate, Free, Rename, Report, Leaks, Capacity, SetBudget}
+use Rattle.gpu_vulkan.specs.Step.{ModelState, CallEnvironment, Step, Allocate, Free, Rename, ProposeMove, Report, Leaks, Capacity, SetBudget, Place, is_again, BytesPlaced, MoveStep}
 use Rattle.gpu_vulkan.specs.Step.{id_in, id_of, BytesAfter, AttemptStep, Follows, next_by, FoundStep, AllocateStep, MayDrop, FreeStep, reply_of}
 use Rattle.gpu_vulkan.specs.declared.allocation.Allocation.{Allocation}
 use Rattle.gpu_vulkan.specs.declared.describe.AllocationCreateDesc.{AllocationCreateDesc}
@@ -131,6 +131,49 @@ module _ (setup : Setup) (d : AllocationCreateDesc) where
   pub not_gained : (o : CallEnvironment) (r : Refusal) (old new : ModelState) → Step setup (Allocate d) o (answers.Error r) old new → new.byte_view ≡ old.byte_view
   not_gained o r old new h = valid_failed (is_valid d) o r old new h
 
+-- ---- a second place
+
+placed_fails : {A : Type 0} (u : ℕ) (x : Option (Piece DeviceMemory)) (r : Refusal) → answers.SecondPlace u x ≡ answers.Error r → A
+placed_fails u x r e = absurd (cc)
+
+fails_placed : {A : Type 0} (u : ℕ) (x : Option (Piece DeviceMemory)) (r : Refusal) → answers.Error r ≡ answers.SecondPlace u x → A
+fails_placed u x r e = absurd (cc)
+
+placed_is : (t u : ℕ) (answer : Place) (x : Option (Piece DeviceMemory)) → answers.SecondPlace u x ≡ answers.placed_with t answer → (t ≡ u) × (answer ≡ Ok x)
+placed_is t u (Ok y) x e = (cc, cc)
+placed_is t u (Err r) x e = placed_fails u x r e
+
+failed_is : (t : ℕ) (answer : Place) (r : Refusal) → answers.Error r ≡ answers.placed_with t answer → answer ≡ Err r
+failed_is t (Ok x) r e = fails_placed t x r e
+failed_is t (Err s) r e = (cc)
+
+module _ (setup : Setup) (a : Allocation) (d : AllocationCreateDesc) where
+  placed_by : (again : Bool) (u : ℕ) (o : CallEnvironment) (x : Option (Piece DeviceMemory)) (old new : ModelState) → MoveStep setup a d again o (answers.SecondPlace u x) old new
+      → BytesPlaced (is_mapped setup.properties u) u (Ok x) old.byte_view new.byte_view
+  placed_by false u o x old new h = placed_fails u x _ h.reply_is
+  placed_by true u o x old new h =
+      let is = placed_is a.memory_type_index u h.1 x h.2 in
+      let bytes = subst (λ z. BytesPlaced (is_mapped setup.properties a.memory_type_index) a.memory_type_index z old.byte_view new.byte_view) is.1 h.3.bytes in
+      subst (λ z. BytesPlaced (is_mapped setup.properties z) z (Ok x) old.byte_view new.byte_view) is.0 bytes
+
+  -- a second place is gained as a new piece is
+  pub placed : (u : ℕ) (o : CallEnvironment) (q : Piece DeviceMemory) (old new : ModelState) → Step setup (ProposeMove a d) o (answers.SecondPlace u (Some q)) old new
+      → Gained (is_mapped setup.properties u) (id_in u q) q.size old.byte_view new.byte_view
+  placed u o q old new h =
+      taken_out (is_mapped setup.properties u) (id_in u q) q.offset q.size old.byte_view old.byte_view new.byte_view (λ r. refl) (placed_by (is_again a d) u o (Some q) old new h)
+
+  -- where there is none, or none was looked for, no byte changes
+  pub not_placed : (u : ℕ) (o : CallEnvironment) (old new : ModelState) → Step setup (ProposeMove a d) o (answers.SecondPlace u None) old new → new.byte_view ≡ old.byte_view
+  not_placed u o old new h = placed_by (is_again a d) u o None old new h
+
+  refused_by : (again : Bool) (o : CallEnvironment) (r : Refusal) (old new : ModelState) → MoveStep setup a d again o (answers.Error r) old new → new.byte_view ≡ old.byte_view
+  refused_by false o r old new h = ap (λ x. x.byte_view) h.same
+  refused_by true o r old new h =
+      subst (λ z. BytesPlaced (is_mapped setup.properties a.memory_type_index) a.memory_type_index z old.byte_view new.byte_view) (failed_is a.memory_type_index h.1 r h.2) h.3.bytes
+
+  pub move_refused : (o : CallEnvironment) (r : Refusal) (old new : ModelState) → Step setup (ProposeMove a d) o (answers.Error r) old new → new.byte_view ≡ old.byte_view
+  move_refused o r old new h = refused_by (is_again a d) o r old new h
+
 -- ---- places
 
 -- the place of a piece's allocation is the piece's
@@ -144,6 +187,18 @@ place_by a (Some n) p e is =
 
 pub place_piece : (a : Allocation) (p : Piece DeviceMemory) → piece_of a ≡ Some p → id_of a ≡ id_in a.memory_type_index p
 place_piece a p is = place_by a a.chunk_id p refl is
+
+-- a piece's allocation is as long as the piece
+size_by : (a : Allocation) (chunk : Option NonZeroU64) (p : Piece DeviceMemory) → a.chunk_id ≡ chunk → piece_of a ≡ Some p → a.size ≡ p.size
+size_by a None p e is = absurd (let f = sym (ap (λ n. piece_of (record a { chunk_id = n })) e) ∙ is in cc)
+size_by a (Some n) p e is =
+    let there : piece_of (record a { chunk_id = Some n }) ≡ Some p = sym (ap (λ c. piece_of (record a { chunk_id = c })) e) ∙ is in
+    let q : Piece DeviceMemory = record { slot = a.memory_block_index; chunk_id = n; offset = a.offset; size = a.size; handle = a.device_memory } in
+    let same : q ≡ p = (let f : Some q ≡ Some p = there in cc) in
+    ap (λ r. r.size) same
+
+pub size_piece : (a : Allocation) (p : Piece DeviceMemory) → piece_of a ≡ Some p → a.size ≡ p.size
+size_piece a p is = size_by a a.chunk_id p refl is
 
 -- ---- a free
 

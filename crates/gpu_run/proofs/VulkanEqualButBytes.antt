@@ -31,9 +31,10 @@ byte_of (Some xs) i = slice_get xs i
 pub record Handle : Type 0 where
   pub memory_type : ℕ
   pub piece : Option (Piece DeviceMemory)
+  pub size : ℕ
 
 abbrev pub handle : Allocation → Handle
-handle a = record { memory_type = a.memory_type_index; piece = piece_of a }
+handle a = record { memory_type = a.memory_type_index; piece = piece_of a; size = a.size }
 
 -- what has the handle is live
 abbrev pub live_by : Slots → Handle → Type 0

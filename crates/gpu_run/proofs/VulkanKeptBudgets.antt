@@ -10,9 +10,9 @@ use Rattle.gpu_vulkan.specs.Setup.{Setup}
 use Rattle.gpu_vulkan.specs.declared.allocation.Allocation.{Allocation}
 use Rattle.gpu_vulkan.proofs.KeptBudgets.{keeps_budgets}
 use Rattle.gpu_vulkan.proofs.EqualButBytes.{step_alike}
-use Rattle.gpu_run.specs.VulkanCommand.{Wanted, KeyCommand, Alloc, Null, Free, Rename, Write, Read, SessionCommand, Under, Report, Leaks, Capacity, SetBudget}
+use Rattle.gpu_run.specs.VulkanCommand.{Wanted, KeyCommand, Alloc, Move, Null, Free, Rename, Write, Read, SessionCommand, Under, Report, Leaks, Capacity, SetBudget}
 use Rattle.gpu_run.specs.VulkanReply.{SessionReply}
-use Rattle.gpu_run.specs.VulkanSession.{SessionState, CommandEnvironment, ServesAlloc, ServesNull, Asks, WritesIn, WritesOver, ServesBound, ServesUnbound, ServesAt, Serves}
+use Rattle.gpu_run.specs.VulkanSession.{SessionState, CommandEnvironment, ServesAlloc, ServesMoveTo, ServesMove, ServesNull, Asks, WritesIn, WritesOver, ServesBound, ServesUnbound, ServesAt, Serves}
 use Rattle.gpu_run.specs.VulkanLaws.{EqualButBytesCommand, EqualButBytesCommandEnvironment}
 
 abbrev budgets_of : SessionState → List (Option ℕ)
@@ -22,6 +22,16 @@ taken : (setup : Setup) (key : ℕ) (w : Wanted) (room : Bool) (o : CallEnvironm
     s.model.budgets
 taken setup key w false o reply s new h = ap budgets_of h.2
 taken setup key w true o reply s new h = keeps_budgets setup (model.Allocate h.description) o h.model_reply s.model new.model tt h.step
+
+moved_in_room : (setup : Setup) (to : ℕ) (a : Allocation) (w : Wanted) (room : Bool) (o : CallEnvironment) (reply : SessionReply) (s new : SessionState)
+    → ServesMoveTo setup to a w room o reply s new → new.model.budgets ≡ s.model.budgets
+moved_in_room setup to a w false o reply s new h = ap budgets_of h.2
+moved_in_room setup to a w true o reply s new h = keeps_budgets setup (model.ProposeMove a h.description) o h.model_reply s.model new.model tt h.step
+
+moved : (setup : Setup) (to : ℕ) (found : Option Allocation) (a : Allocation) (w : Wanted) (o : CommandEnvironment) (reply : SessionReply) (s new : SessionState)
+    → ServesMove setup to found a w o reply s new → new.model.budgets ≡ s.model.budgets
+moved setup to (Some b) a w o reply s new h = ap budgets_of h.1.1
+moved setup to None a w o reply s new h = moved_in_room setup to a w o.room o.call reply s new h
 
 null_taken : (key : ℕ) (room : Bool) (reply : SessionReply) (s new : SessionState) → ServesNull key room reply s new → new.model.budgets ≡ s.model.budgets
 null_taken key false reply s new h = ap budgets_of h.1
@@ -42,6 +52,7 @@ put_over setup a at others (Some bytes) o reply s new h = put_in setup a at othe
 bound_kept : (setup : Setup) (key : ℕ) (a : Allocation) (command : KeyCommand) (o : CommandEnvironment) (reply : SessionReply) (s new : SessionState) → ServesBound setup key a command o reply s new →
     new.model.budgets ≡ s.model.budgets
 bound_kept setup key a (Alloc w) o reply s new h = ap budgets_of h.1.1
+bound_kept setup key a (Move to w) o reply s new h = moved setup to (s.bound to) a w o reply s new h
 bound_kept setup key a Null o reply s new h = ap budgets_of h.1.1
 bound_kept setup key a Free o reply s new h = keeps_budgets setup (model.Free a) o.call answers.Done s.model new.model tt h.step
 bound_kept setup key a (Rename name) o reply s new h = keeps_budgets setup (model.Rename a name) o.call h.model_reply s.model new.model tt h.step
@@ -51,6 +62,7 @@ bound_kept setup key a (Read at size) o reply s new h = ap budgets_of h.3.1
 free_kept : (setup : Setup) (key : ℕ) (command : KeyCommand) (o : CommandEnvironment) (reply : SessionReply) (s new : SessionState) → ServesUnbound setup key command o reply s new → new.model.budgets
     ≡ s.model.budgets
 free_kept setup key (Alloc w) o reply s new h = taken setup key w o.room o.call reply s new h
+free_kept setup key (Move to w) o reply s new h = ap budgets_of h.1.1
 free_kept setup key Null o reply s new h = null_taken key o.room reply s new h.1
 free_kept setup key Free o reply s new h = ap budgets_of h.1.1
 free_kept setup key (Rename name) o reply s new h = ap budgets_of h.1.1

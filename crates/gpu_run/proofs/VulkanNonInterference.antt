@@ -1,6 +1,6 @@
 -- Two runs that differ in the bytes of others alone stay alike.
 use Rattle.std.proofs.Common.{◌≡◌, ◌∙◌, ◌⊎◌, ℕ, ◌+◌, ◌<◌, ◌≤◌, List, [], ◌∷◌, length, take, drop, Option, Some, None, Bool, true, false, refl, sym, ap, subst, inl, inr, arith, ⊎_elim}
-use Rattle.std.specs.Prelude.{nat_le, slice_get, if◌then◌else◌}
+use Rattle.std.specs.Prelude.{nat_le, slice_get, if◌then◌else◌, ◌==◌, ◌&&◌, not}
 use Rattle.std.specs.List.{AllZip}
 use Rattle.std.specs.Option.{option_map}
 use Rattle.std.proofs.lemmas.Bool.Decides.{nat_tests}
@@ -8,6 +8,8 @@ use Rattle.gpu_values.specs.Refusal.{Refusal, host_out_of_memory}
 use Rattle.gpu_core.specs.declared.piece.Piece.{Piece}
 use Rattle.gpu_device.specs.declared.vulkan.types.DeviceMemory.{DeviceMemory}
 use Rattle.gpu_vulkan.specs.EqualButBytes.{EqualButBytesDescription, EqualButBytesCall, EqualButBytesReply}
+use Rattle.gpu_vulkan.specs.Allocate.{is_valid}
+use Rattle.gpu_vulkan.specs.Describe.{requests_dedicated}
 use Rattle.gpu_vulkan.specs.Types.{is_mapped}
 use Rattle.gpu_vulkan.specs.Blocks.{Slots}
 use Rattle.gpu_vulkan.specs.ByteView.{AllocationId, Writes}
@@ -17,19 +19,19 @@ use Rattle.gpu_vulkan.specs.Rename.{IsNamed}
 use Rattle.gpu_vulkan.specs.Setup.{Setup}
 use Rattle.gpu_vulkan.specs.Reply as answers
 use Rattle.gpu_vulkan.specs.Step as model
-use Rattle.gpu_vulkan.specs.Step.{ModelState, CallEnvironment, Step, IsRead, id_of, id_in, FreeStep, RenameStep, WriteStep}
+use Rattle.gpu_vulkan.specs.Step.{ModelState, CallEnvironment, Step, IsRead, id_of, id_in, FreeStep, RenameStep, is_again, PlaceStep, MoveStep, WriteStep}
 use Rattle.gpu_vulkan.specs.declared.allocation.Allocation.{Allocation}
 use Rattle.gpu_vulkan.specs.declared.describe.AllocationCreateDesc.{AllocationCreateDesc}
 use Rattle.gpu_vulkan.proofs.EqualButBytes.{step_alike}
-use Rattle.gpu_run.specs.VulkanCommand.{Wanted, Describes, KeyCommand, Alloc, Null, Free, Rename, Write, Read, SessionCommand, Under, Report, Leaks, Capacity, SetBudget}
-use Rattle.gpu_run.specs.VulkanReply.{SessionReply, Allocated, Done, Bytes, Busy, Unbound, Unmapped, OutOfRange, Error}
-use Rattle.gpu_run.specs.VulkanSession.{SessionState, SessionInvariant, shown, CommandEnvironment, Stays, Binds, ServesAlloc, ServesNull, Frees, BindsNamed, Renames, overwritten, WritesIn}
+use Rattle.gpu_run.specs.VulkanCommand.{Wanted, Describes, KeyCommand, Alloc, Move, Null, Free, Rename, Write, Read, SessionCommand, Under, Report, Leaks, Capacity, SetBudget}
+use Rattle.gpu_run.specs.VulkanReply.{SessionReply, Allocated, Done, Bytes, Busy, Unbound, NoPlace, Unmapped, OutOfRange, Error}
+use Rattle.gpu_run.specs.VulkanSession.{SessionState, SessionInvariant, shown, CommandEnvironment, Stays, Binds, BindsPlace, ServesAlloc, ServesMoveTo, ServesMove, ServesNull, Frees, BindsNamed, Renames, overwritten, WritesIn}
 use Rattle.gpu_run.specs.VulkanSession.{WritesOver, WritesAt, reply_to_part, reply_to_read, ReadsAt, ServesBound, ServesUnbound, ServesAt, reply_by, Asks, Serves, Runs}
 use Rattle.gpu_run.specs.VulkanLaws.{EqualButBytesKeyCommand, EqualButBytesCommand, EqualButBytesCommandEnvironment, Written, everything, written_after, EqualButBytesAnswer}
 use Rattle.gpu_run.specs.VulkanLaws.{EqualButBytesReplies, NonInterference}
 use Rattle.gpu_run.proofs.Binding.{bound_here}
 use Rattle.gpu_run.proofs.VulkanOwning.{null_dead, some_same, none_some, freed_null}
-use Rattle.gpu_run.proofs.VulkanChanges.{Gained, Lost, gained, not_gained, place_piece, lost, named_bytes, shown_same, told_same, summed_same, budget_set_bytes}
+use Rattle.gpu_run.proofs.VulkanChanges.{Gained, Lost, gained, not_gained, placed, not_placed, move_refused, place_piece, size_piece, lost, named_bytes, shown_same, told_same, summed_same, budget_set_bytes}
 use Rattle.gpu_run.proofs.VulkanKeptBudgets.{budgets_next}
 use Rattle.gpu_run.proofs.VulkanRanges.{length_range, get_range}
 use Rattle.gpu_run.proofs.VulkanEqualButBytes.{byte_of, handle, Alike, alike_kept, alike_given, alike_null, alike_named, alike_returned, alike_unbound, alike_written}
@@ -54,6 +56,23 @@ free_as setup a b o s new same h = (h.0, h.1, h.2, subst (λ z. FreeStep setup z
 rename_as : (setup : Setup) (a b : Allocation) (name : List ℕ) (o : CallEnvironment) (model_reply : answers.Reply) (s new : ModelState) → handle a ≡ handle b → Step setup (model.Rename b name) o
     model_reply s new → Step setup (model.Rename a name) o model_reply s new
 rename_as setup a b name o model_reply s new same h = (h.0, h.1, h.2, subst (λ z. RenameStep setup z.memory_type z.piece name o.first.host h.1 s new) (sym same) h.3)
+
+-- a proposed move of what has the same handle
+moved_as : (setup : Setup) (a b : Allocation) (d : AllocationCreateDesc) (again : Bool) (o : CallEnvironment) (model_reply : answers.Reply) (s new : ModelState) → handle a ≡ handle b
+    → MoveStep setup b d again o model_reply s new → MoveStep setup a d again o model_reply s new
+moved_as setup a b d false o model_reply s new same h = h
+moved_as setup a b d true o model_reply s new same h = (
+  h.0,
+  h.1,
+  subst (λ z. model_reply ≡ answers.placed_with z.memory_type h.1) (sym same) h.2,
+  subst (λ z. PlaceStep setup z.memory_type z.piece d o.first.host h.1 s new) (sym same) h.3,
+)
+
+move_as : (setup : Setup) (a b : Allocation) (d : AllocationCreateDesc) (o : CallEnvironment) (model_reply : answers.Reply) (s new : ModelState) → handle a ≡ handle b
+    → Step setup (model.ProposeMove b d) o model_reply s new → Step setup (model.ProposeMove a d) o model_reply s new
+move_as setup a b d o model_reply s new same h =
+    let again : is_again b d ≡ is_again a d = ap (λ z. is_valid d && ((d.requirements.size == z.size) && not (requests_dedicated d.allocation_scheme))) (sym same) in
+    moved_as setup a b d (is_again a d) o model_reply s new same (subst (λ z. MoveStep setup b d z o model_reply s new) again h)
 
 named_handle : (a b : Allocation) (name : List ℕ) → IsNamed a name b → handle b ≡ handle a
 named_handle a b name h = ap handle h.others
@@ -139,22 +158,34 @@ module _ (ours : ℕ → Bool) (written : Written) (setup : Setup) (s t new next
 
   -- ---- requests
 
+  -- a number stands for a new piece of the same place in both
+  given_at : (command : SessionCommand) (key u : ℕ) (w : Wanted) (d e : AllocationCreateDesc) (q : Piece DeviceMemory)
+      → EqualButBytesAnswer ours written command (Allocated (shown setup w u q)) (Allocated (shown setup w u q))
+      → ((now : Alike ours (λ k i. if key == k then false else written k i) new next) → Alike ours (written_after command (Allocated (shown setup w u q)) written) new next)
+      → new.model.slots ≡ next.model.slots → Gained (is_mapped setup.properties u) (id_in u q) q.size s.model.byte_view new.model.byte_view
+      → Gained (is_mapped setup.properties u) (id_in u q) q.size t.model.byte_view next.model.byte_view → Binds setup key w d (answers.Allocated u q) reply s.bound new.bound
+      → Binds setup key w e (answers.Allocated u q) other_reply t.bound next.bound
+      → Next ours written command reply other_reply new next
+  given_at command key u w d e q answer onward slots h k b c =
+      let one = b.0 in
+      let two = c.0 in
+      let place : id_of one ≡ id_in u q = place_piece one q b.1.piece ∙ ap (λ z. id_in z q) b.1.memory_type in
+      let long : one.size ≡ two.size = size_piece one q b.1.piece ∙ sym (size_piece two q c.1.piece) in
+      let same : handle one ≡ handle two = (λ i. record { memory_type = (b.1.memory_type ∙ sym c.1.memory_type) i; piece = (b.1.piece ∙ sym c.1.piece) i; size = long i }) in
+      let m = subst (λ r. Gained (is_mapped setup.properties u) r q.size s.model.byte_view new.model.byte_view) (sym place) h in
+      let n = subst (λ r. Gained (is_mapped setup.properties u) r q.size t.model.byte_view next.model.byte_view) (sym place) k in
+      let here : new.bound key ≡ Some one = ap (λ f. f key) b.3 ∙ bound_here s.bound key key (Some one) refl in
+      let live : IsLive new.model.slots one = ⊎_elim (λ null. absurd (none_some q (sym null ∙ b.1.piece))) (λ z. z) (kept_new.own.live key one here) in
+      next_at command (Allocated (shown setup w u q)) (Allocated (shown setup w u q)) b.2 c.2 answer
+      (onward (alike_given ours written setup s t new next kept kept_new alike key one two (is_mapped setup.properties u) q.size b.3 c.3 same live slots m n))
+
   given_both : (key u : ℕ) (w : Wanted) (d e : AllocationCreateDesc) (q : Piece DeviceMemory) → new.model.slots ≡ next.model.slots → Step setup (model.Allocate d) o.call (answers.Allocated u q) s.model
       new.model
       → Step setup (model.Allocate e) p.call (answers.Allocated u q) t.model next.model → Binds setup key w d (answers.Allocated u q) reply s.bound new.bound
       → Binds setup key w e (answers.Allocated u q) other_reply t.bound next.bound
       → Next ours written (Under key (Alloc w)) reply other_reply new next
   given_both key u w d e q slots h k b c =
-      let one = b.0 in
-      let two = c.0 in
-      let place : id_of one ≡ id_in u q = place_piece one q b.1.piece ∙ ap (λ z. id_in z q) b.1.memory_type in
-      let same : handle one ≡ handle two = (λ i. record { memory_type = (b.1.memory_type ∙ sym c.1.memory_type) i; piece = (b.1.piece ∙ sym c.1.piece) i }) in
-      let m = subst (λ r. Gained (is_mapped setup.properties u) r q.size s.model.byte_view new.model.byte_view) (sym place) (gained setup d u o.call q s.model new.model h) in
-      let n = subst (λ r. Gained (is_mapped setup.properties u) r q.size t.model.byte_view next.model.byte_view) (sym place) (gained setup e u p.call q t.model next.model k) in
-      let here : new.bound key ≡ Some one = ap (λ f. f key) b.3 ∙ bound_here s.bound key key (Some one) refl in
-      let live : IsLive new.model.slots one = ⊎_elim (λ null. absurd (none_some q (sym null ∙ b.1.piece))) (λ z. z) (kept_new.own.live key one here) in
-      next_at (Under key (Alloc w)) (Allocated (shown setup w u q)) (Allocated (shown setup w u q)) b.2 c.2 refl
-      (alike_given ours written setup s t new next kept kept_new alike key one two (is_mapped setup.properties u) q.size b.3 c.3 same live slots m n)
+      given_at (Under key (Alloc w)) key u w d e q refl (λ z. z) slots (gained setup d u o.call q s.model new.model h) (gained setup e u p.call q t.model next.model k) b c
 
   failed_both : (key : ℕ) (w : Wanted) (d e : AllocationCreateDesc) (r : Refusal) → new.model.slots ≡ next.model.slots → Step setup (model.Allocate d) o.call (answers.Error r) s.model new.model
       → Step setup (model.Allocate e) p.call (answers.Error r) t.model next.model → Binds setup key w d (answers.Error r) reply s.bound new.bound
@@ -327,6 +358,46 @@ module _ (ours : ℕ → Bool) (written : Written) (setup : Setup) (s t new next
       (k.2 ∙ ap (reply_to_read p.room at size) r.right ∙ ap (λ z. if z then reply_to_part p.room (take size (drop at r.ys)) else OutOfRange) fits) now)
       (both_read setup s t a b same alike.slots alike.sizes h.0 k.0 h.1 k.1)
 
+  -- ---- a second place
+
+  place_both : (key to : ℕ) (w : Wanted) (a : Allocation) (d e : AllocationCreateDesc) (x y : answers.Reply) → EqualButBytesReply x y → new.model.slots ≡ next.model.slots
+      → Step setup (model.ProposeMove a d) o.call x s.model new.model → Step setup (model.ProposeMove a e) p.call y t.model next.model
+      → BindsPlace setup to w d x reply s.bound new.bound → BindsPlace setup to w e y other_reply t.bound next.bound
+      → Next ours written (Under key (Move to w)) reply other_reply new next
+  place_both key to w a d e (answers.SecondPlace u (Some q)) y same slots h k b c =
+      let k2 = subst (λ z. Step setup (model.ProposeMove a e) p.call z t.model next.model) (sym same) k in
+      given_at (Under key (Move to w)) to u w d e q refl (λ z. z) slots (placed setup a d u o.call q s.model new.model h) (placed setup a e u p.call q t.model next.model k2) b
+      (subst (λ z. BindsPlace setup to w e z other_reply t.bound next.bound) (sym same) c)
+  place_both key to w a d e (answers.SecondPlace u None) y same slots h k b c =
+      let k2 = subst (λ z. Step setup (model.ProposeMove a e) p.call z t.model next.model) (sym same) k in
+      let c2 = subst (λ z. BindsPlace setup to w e z other_reply t.bound next.bound) (sym same) c in
+      next_at (Under key (Move to w)) NoPlace NoPlace b.0 c2.0 refl
+      (alike_kept ours written setup s t new next kept kept_new alike b.1 c2.1 slots (not_placed setup a d u o.call s.model new.model h) (not_placed setup a e u p.call t.model next.model k2))
+  place_both key to w a d e (answers.Error r) y same slots h k b c =
+      let k2 = subst (λ z. Step setup (model.ProposeMove a e) p.call z t.model next.model) (sym same) k in
+      let c2 = subst (λ z. BindsPlace setup to w e z other_reply t.bound next.bound) (sym same) c in
+      next_at (Under key (Move to w)) (Error r) (Error r) b.0 c2.0 refl
+      (alike_kept ours written setup s t new next kept kept_new alike b.1 c2.1 slots (move_refused setup a d o.call r s.model new.model h) (move_refused setup a e p.call r t.model next.model k2))
+  place_both key to w a d e (answers.Allocated u q) y same slots h k b c = absurd b
+  place_both key to w a d e answers.Done y same slots h k b c = absurd b
+  place_both key to w a d e (answers.Bytes xs) y same slots h k b c = absurd b
+  place_both key to w a d e (answers.Capacity n) y same slots h k b c = absurd b
+  place_both key to w a d e (answers.Report r) y same slots h k b c = absurd b
+  place_both key to w a d e (answers.Leaks ts) y same slots h k b c = absurd b
+  place_both key to w a d e (answers.Budget z) y same slots h k b c = absurd b
+
+  move_in_room : (key to : ℕ) (w : Wanted) (a b : Allocation) (room also : Bool) → room ≡ also → handle a ≡ handle b → ServesMoveTo setup to a w room o.call reply s new
+      → ServesMoveTo setup to b w also p.call other_reply t next → Next ours written (Under key (Move to w)) reply other_reply new next
+  move_in_room key to w a b false false e same h k = next_at (Under key (Move to w)) (Error host_out_of_memory) (Error host_out_of_memory) h.1 k.1 refl (unchanged h.2 k.2)
+  move_in_room key to w a b true true e same h k =
+      let step = move_as setup a b k.description p.call k.model_reply t.model next.model same k.step in
+      let law = step_alike setup o.call p.call h.model_reply k.model_reply s.model new.model t.model next.model kept.sound alike.slots budgets met.call (model.ProposeMove a h.description)
+      (model.ProposeMove a k.description)
+      (refl, same_description h.description k.description w h.describes k.describes) h.step step in
+      place_both key to w a h.description k.description h.model_reply k.model_reply law.0 law.1.0 h.step step h.binds k.binds
+  move_in_room key to w a b false true e same h k = absurd (cc)
+  move_in_room key to w a b true false e same h k = absurd (cc)
+
   -- ---- under a number
 
   stay_both : (command : SessionCommand) (x : SessionReply) → EqualButBytesAnswer ours written command x x →
@@ -334,9 +405,17 @@ module _ (ours : ℕ → Bool) (written : Written) (setup : Setup) (s t new next
       → (reply ≡ x) × Stays o s new → (other_reply ≡ x) × Stays p t next → Next ours written command reply other_reply new next
   stay_both command x same onward h k = next_at command x x h.0 k.0 same (onward (unchanged h.1.1 k.1.1))
 
+  move_both : (key to : ℕ) (w : Wanted) (a b : Allocation) (x y : Option Allocation) → option_map handle x ≡ option_map handle y → handle a ≡ handle b → ServesMove setup to x a w o reply s new
+      → ServesMove setup to y b w p other_reply t next → Next ours written (Under key (Move to w)) reply other_reply new next
+  move_both key to w a b (Some c) (Some d) e same h k = stay_both (Under key (Move to w)) Busy refl (λ z. z) h k
+  move_both key to w a b None None e same h k = move_in_room key to w a b o.room p.room met.room same h k
+  move_both key to w a b None (Some d) e same h k = absurd (cc)
+  move_both key to w a b (Some c) None e same h k = absurd (cc)
+
   free_both : (key : ℕ) (command to : KeyCommand) → EqualButBytesKeyCommand (ours key) command to → ServesUnbound setup key command o reply s new → ServesUnbound setup key to p other_reply t next →
       Next ours written (Under key command) reply other_reply new next
   free_both key (Alloc w) to e h k = take_both key w o.room p.room met.room h (subst (λ d. ServesUnbound setup key d p other_reply t next) (sym e) k)
+  free_both key (Move place w) to e h k = stay_both (Under key (Move place w)) Unbound refl (λ z. z) h (subst (λ d. ServesUnbound setup key d p other_reply t next) (sym e) k)
   free_both key Null to e h k =
       let k2 = subst (λ d. ServesUnbound setup key d p other_reply t next) (sym e) k in
       null_both key o.room p.room met.room h.1 k2.1
@@ -345,6 +424,7 @@ module _ (ours : ℕ → Bool) (written : Written) (setup : Setup) (s t new next
   free_both key (Read at size) to e h k = stay_both (Under key (Read at size)) Unbound refl (λ z. z) h (subst (λ d. ServesUnbound setup key d p other_reply t next) (sym e) k)
   free_both key (Write at ws) (Write there vs) e h k = stay_both (Under key (Write at ws)) Unbound refl (λ z. z) h k
   free_both key (Write at ws) (Alloc w) e h k = absurd (cc)
+  free_both key (Write at ws) (Move place w) e h k = absurd (cc)
   free_both key (Write at ws) Null e h k = absurd (cc)
   free_both key (Write at ws) Free e h k = absurd (cc)
   free_both key (Write at ws) (Rename name) e h k = absurd (cc)
@@ -354,6 +434,8 @@ module _ (ours : ℕ → Bool) (written : Written) (setup : Setup) (s t new next
       reply s new → ServesBound setup key b to p other_reply t next
       → Next ours written (Under key command) reply other_reply new next
   bound_both key (Alloc w) to a b e same found h k = stay_both (Under key (Alloc w)) Busy refl (λ z. z) h (subst (λ d. ServesBound setup key b d p other_reply t next) (sym e) k)
+  bound_both key (Move place w) to a b e same found h k =
+      move_both key place w a b (s.bound place) (t.bound place) (alike.bound place) same h (subst (λ d. ServesBound setup key b d p other_reply t next) (sym e) k)
   bound_both key Null to a b e same found h k = stay_both (Under key Null) Busy refl (λ z. z) h (subst (λ d. ServesBound setup key b d p other_reply t next) (sym e) k)
   bound_both key Free to a b e same found h k = return_both key a b same found h (subst (λ d. ServesBound setup key b d p other_reply t next) (sym e) k)
   bound_both key (Rename name) to a b e same found h k = rename_both key a b name same found h (subst (λ d. ServesBound setup key b d p other_reply t next) (sym e) k)
@@ -361,6 +443,7 @@ module _ (ours : ℕ → Bool) (written : Written) (setup : Setup) (s t new next
   bound_both key (Write at ws) (Write there vs) a b e same found h k = put_both key at ws vs a b e.1 e.2 same found h
       (subst (λ z. ServesBound setup key b (Write z vs) p other_reply t next) (sym e.0) k)
   bound_both key (Write at ws) (Alloc w) a b e same found h k = absurd (cc)
+  bound_both key (Write at ws) (Move place w) a b e same found h k = absurd (cc)
   bound_both key (Write at ws) Null a b e same found h k = absurd (cc)
   bound_both key (Write at ws) Free a b e same found h k = absurd (cc)
   bound_both key (Write at ws) (Rename name) a b e same found h k = absurd (cc)

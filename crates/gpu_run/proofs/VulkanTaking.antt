@@ -58,7 +58,7 @@ mapped_is None a h = absurd h
 mapped_is (Some info) a h = h.1
 
 -- what the allocation shows is what the model shows
-shown_same : (setup : Setup) (d : AllocationCreateDesc) (w : Wanted) (t : ℕ) (p : Piece DeviceMemory) (a : Allocation) → Describes d w → IsAllocated setup t d p a → shown_allocation a ≡ shown setup w t p
+pub shown_same : (setup : Setup) (d : AllocationCreateDesc) (w : Wanted) (t : ℕ) (p : Piece DeviceMemory) (a : Allocation) → Describes d w → IsAllocated setup t d p a → shown_allocation a ≡ shown setup w t p
 shown_same setup d w t p a wants given =
     let mapped = mapped_is (slice_get setup.properties.types t) a given.memory in
     let own = given.dedicated ∙ ap requests_dedicated wants.scheme in

@@ -1,6 +1,6 @@
 -- What a session is asked for.
 use Rattle.std.specs.Prelude.{ℕ, List, Option, string_bytes}
-use Rattle.gpu_run.specs.D3D12Describe.{Wanted}
+use Rattle.gpu_run.specs.D3D12Describe.{Wanted, wanted_of}
 use Rattle.gpu_run.specs.declared.d3d12.command.Command.{Command}
 use Rattle.gpu_run.specs.declared.d3d12.command.Command.TheVariants as asked
 use Rattle.gpu_run.specs.declared.d3d12.command.WantedResource.{WantedResource}
@@ -8,6 +8,8 @@ use Rattle.gpu_run.specs.declared.d3d12.command.WantedResource.{WantedResource}
 -- a command under a number of an allocation
 pub data KeyCommand : Type 0 where
   Alloc : (wanted : Wanted) → KeyCommand
+  -- a second place, under another number
+  Move : (to : ℕ) (wanted : Wanted) → KeyCommand
   Free : KeyCommand
   Rename : (name : List ℕ) → KeyCommand
 
@@ -28,8 +30,8 @@ pub data SessionCommand : Type 0 where
 
 -- the command in the words of the model
 abbrev pub command_of : Command → SessionCommand
-command_of (asked.Alloc key size alignment location category name) =
-    Under key (Alloc (record { size = size; alignment = alignment; location = location; category = category; name = string_bytes name }))
+command_of (asked.Alloc key request) = Under key (Alloc (wanted_of request))
+command_of (asked.Move key to request) = Under key (Move to (wanted_of request))
 command_of (asked.Free key) = Under key Free
 command_of (asked.Rename key name) = Under key (Rename (string_bytes name))
 command_of (asked.Create key wanted) = UnderResource key (Create wanted)

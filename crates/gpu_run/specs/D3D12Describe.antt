@@ -9,6 +9,7 @@ use Rattle.gpu_d3d12.specs.declared.question.ResourceType.{ResourceType}
 use Rattle.gpu_d3d12.specs.declared.question.ResourceType.TheVariants.{Committed, Placed}
 use Rattle.gpu_run.specs.declared.d3d12.command.Memory.{Memory}
 use Rattle.gpu_run.specs.declared.d3d12.command.Memory.TheVariants as memories
+use Rattle.gpu_run.specs.declared.d3d12.command.Request.{Request}
 use Rattle.gpu_run.specs.declared.d3d12.command.WantedResource.{WantedResource}
 
 -- the size, alignment, location, category and name of a piece
@@ -18,6 +19,10 @@ pub record Wanted : Type 0 where
   pub location : MemoryLocation
   pub category : ResourceCategory
   pub name : List ℕ
+
+-- what a request asks for
+abbrev pub wanted_of : Request → Wanted
+wanted_of r = record { size = r.size; alignment = r.alignment; location = r.location; category = r.category; name = string_bytes r.name }
 
 -- the description asks for this piece
 pub record AsksFor (w : Wanted) (d : AllocationCreateDesc) : Type 0 where

@@ -37,6 +37,8 @@ pub data SessionReply : Type 0 where
   Report : (report : reports.Report) → SessionReply
   Capacity : (bytes : ℕ) → SessionReply
   Committed : (statistics : Option CommittedAllocationStatistics) → SessionReply
+  -- no block ahead has a second place
+  NoPlace : SessionReply
   -- the number stands for something already, or for nothing
   Busy : SessionReply
   Unbound : SessionReply
@@ -67,6 +69,7 @@ reply_of (answered.Leaks texts) = Leaks (map string_bytes texts.items)
 reply_of (answered.Report report) = Report (report_of report)
 reply_of (answered.Capacity n) = Capacity n
 reply_of (answered.Committed statistics) = Committed statistics
+reply_of answered.NoPlace = NoPlace
 reply_of answered.Busy = Busy
 reply_of answered.Unbound = Unbound
 reply_of (answered.Error e) = Error (refusal_of e)

@@ -25,10 +25,10 @@ use Rattle.gpu_d3d12.specs.Step as model
 use Rattle.gpu_d3d12.specs.Step.{Environment, Step, nothing_met}
 use Rattle.gpu_d3d12.specs.declared.resource.Resource.{Resource}
 use Rattle.gpu_run.specs.Bindings.{Bindings, bind, AreOwn}
-use Rattle.gpu_run.specs.D3D12Command.{KeyCommand, Alloc, Free, Rename, ResourceCommand, Create, Release, SessionCommand, Under, UnderResource, Leaks, Report, Capacity, Committed, SetBudget}
+use Rattle.gpu_run.specs.D3D12Command.{KeyCommand, Alloc, Move, Free, Rename, ResourceCommand, Create, Release, SessionCommand, Under, UnderResource, Leaks, Report, Capacity, Committed, SetBudget}
 use Rattle.gpu_run.specs.D3D12Describe.{Wanted, AsksFor, AsksForResource}
 use Rattle.gpu_run.specs.D3D12Reply as replies
-use Rattle.gpu_run.specs.D3D12Reply.{SessionReply, Allocated, Made, Done, Busy, Unbound, Error, shown, shown_resource}
+use Rattle.gpu_run.specs.D3D12Reply.{SessionReply, Allocated, Made, Done, NoPlace, Busy, Unbound, Error, shown, shown_resource}
 use Rattle.gpu_run.specs.declared.d3d12.command.WantedResource.{WantedResource}
 
 -- ---- states
@@ -108,6 +108,13 @@ Binds key name (answers.Allocated t p) reply old new = (a : Allocation) × IsAll
 Binds key name (answers.Error r) reply old new = (reply ≡ Error r) × (new ≡ old)
 Binds key name _ reply old new = ⊥
 
+-- the same of the reply to a proposed move
+abbrev pub BindsPlace : (to : ℕ) (name : List ℕ) → answers.Reply ID3D12Heap → SessionReply → (old new : Bindings Allocation) → Type 0
+BindsPlace to name (answers.SecondPlace t (Some p)) reply old new = (a : Allocation) × IsAllocated t name p a × (reply ≡ Allocated (shown t p)) × (new ≡ bind old to (Some a))
+BindsPlace to name (answers.SecondPlace t None) reply old new = (reply ≡ NoPlace) × (new ≡ old)
+BindsPlace to name (answers.Error r) reply old new = (reply ≡ Error r) × (new ≡ old)
+BindsPlace to name _ reply old new = ⊥
+
 -- the same of the reply to a new name
 abbrev pub Names : (key : ℕ) → Allocation → (name : List ℕ) → answers.Reply ID3D12Heap → SessionReply → (old new : Bindings Allocation) → Type 0
 Names key a name answers.Done reply old new = (b : Allocation) × IsNamed a name b × (reply ≡ Done) × (new ≡ bind old key (Some b))
@@ -157,6 +164,25 @@ module _ (basis : Basis) where
   ServesAlloc key w false met reply old new = (reply ≡ Error host_out_of_memory) × Stays met old new
   ServesAlloc key w true met reply old new = Allocates key w met reply old new
 
+  -- the allocator is asked for a second place
+  pub record Proposes (to : ℕ) (a : Allocation) (w : Wanted) (met : Environment) (reply : SessionReply) (old new : SessionState) : Type 0 where
+    pub description : AllocationCreateDesc
+    pub asks : AsksFor w description
+    pub model_reply : answers.Reply ID3D12Heap
+    pub step : Step basis (model.ProposeMove a description) met (module_replies.Pool model_reply) old.model new.model
+    pub binds : BindsPlace to w.name model_reply reply old.bound new.bound
+    pub resources : new.resources ≡ old.resources
+
+  -- a second place under a free number: first room is made for the number
+  abbrev pub ServesMoveTo : (to : ℕ) → Allocation → Wanted → (room : Bool) → Environment → SessionReply → SessionState → SessionState → Type 0
+  ServesMoveTo to a w false met reply old new = (reply ≡ Error host_out_of_memory) × Stays met old new
+  ServesMoveTo to a w true met reply old new = Proposes to a w met reply old new
+
+  -- the same under a number that may stand for an allocation
+  abbrev pub ServesMove : (to : ℕ) → Option Allocation → Allocation → Wanted → CommandEnvironment → SessionReply → SessionState → SessionState → Type 0
+  ServesMove to (Some b) a w o reply old new = (reply ≡ Busy) × Stays o.met old new
+  ServesMove to None a w o reply old new = ServesMoveTo to a w o.room o.met reply old new
+
   -- an allocation is freed
   pub record Frees (key : ℕ) (a : Allocation) (met : Environment) (reply : SessionReply) (old new : SessionState) : Type 0 where
     pub done : reply ≡ Done
@@ -174,9 +200,11 @@ module _ (basis : Basis) where
   -- under a number that stands for an allocation, or for none
   abbrev pub ServesAt : (key : ℕ) → Option Allocation → KeyCommand → CommandEnvironment → SessionReply → SessionState → SessionState → Type 0
   ServesAt key (Some a) (Alloc w) o reply old new = (reply ≡ Busy) × Stays o.met old new
+  ServesAt key (Some a) (Move to w) o reply old new = ServesMove to (old.bound to) a w o reply old new
   ServesAt key (Some a) Free o reply old new = Frees key a o.met reply old new
   ServesAt key (Some a) (Rename name) o reply old new = Renames key a name o.met reply old new
   ServesAt key None (Alloc w) o reply old new = ServesAlloc key w o.room o.met reply old new
+  ServesAt key None (Move to w) o reply old new = (reply ≡ Unbound) × Stays o.met old new
   ServesAt key None Free o reply old new = (reply ≡ Unbound) × Stays o.met old new
   ServesAt key None (Rename name) o reply old new = (reply ≡ Unbound) × Stays o.met old new
 

@@ -1,5 +1,6 @@
 -- What a session is asked for.
 use Rattle.std.specs.Prelude.{ℕ, List, Option, string_bytes}
+use Rattle.gpu_run.specs.MetalDescribe.{Described, described_piece}
 use Rattle.gpu_run.specs.declared.metal.describe.Wanted.{Wanted}
 use Rattle.gpu_run.specs.declared.metal.describe.Wanted.TheVariants.{Piece, Buffer, AccelerationStructure, Texture}
 use Rattle.gpu_run.specs.declared.metal.command.Command.{Command}
@@ -8,6 +9,8 @@ use Rattle.gpu_run.specs.declared.metal.command.Command.TheVariants as asked
 -- a command under a number of the caller's
 pub data KeyCommand : Type 0 where
   Alloc : (wanted : Wanted) (name : List ℕ) → KeyCommand
+  -- a second place, under another number
+  Move : (to : ℕ) (is : Described) (name : List ℕ) → KeyCommand
   Free : KeyCommand
 
 -- a command under a number, or one of the whole allocator
@@ -21,7 +24,8 @@ pub data SessionCommand : Type 0 where
 
 -- a command without what is of its Rust form alone: a piece and a resource ask for an allocation alike
 abbrev pub command_of : Command → SessionCommand
-command_of (asked.Alloc key size alignment location name) = Under key (Alloc (Piece size alignment location) (string_bytes name))
+command_of (asked.Alloc key r) = Under key (Alloc (Piece r.size r.alignment r.location) (string_bytes r.name))
+command_of (asked.Move key to r) = Under key (Move to (described_piece r) (string_bytes r.name))
 command_of (asked.Buffer key length location name) = Under key (Alloc (Buffer length location) (string_bytes name))
 command_of (asked.AccelerationStructure key size location name) = Under key (Alloc (AccelerationStructure size location) (string_bytes name))
 command_of (asked.Texture key texture name) = Under key (Alloc (Texture texture) (string_bytes name))

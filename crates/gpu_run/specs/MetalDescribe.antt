@@ -9,6 +9,7 @@ use Rattle.gpu_device.specs.declared.metal.types.StorageMode.{StorageMode}
 use Rattle.gpu_device.specs.declared.metal.types.StorageMode.TheVariants.{Shared, Managed, Private, Memoryless, Other}
 use Rattle.gpu_metal.specs.Describe.{buffer_storage_mode}
 use Rattle.gpu_metal.specs.declared.describe.AllocationCreateDesc.{AllocationCreateDesc}
+use Rattle.gpu_run.specs.declared.metal.command.Request.{Request}
 use Rattle.gpu_run.specs.declared.metal.describe.Wanted.{Wanted}
 use Rattle.gpu_run.specs.declared.metal.describe.Wanted.TheVariants.{Piece, Buffer, AccelerationStructure, Texture}
 
@@ -17,6 +18,10 @@ pub record Described : Type 0 where
   pub size : ℕ
   pub alignment : ℕ
   pub location : MemoryLocation
+
+-- the piece that a request asks for
+abbrev pub described_piece : Request → Described
+described_piece r = record { size = r.size; alignment = r.alignment; location = r.location }
 
 -- at this location, of the size and alignment that the device tells
 abbrev pub told_at : SizeAndAlign → MemoryLocation → Described

@@ -26,6 +26,8 @@ pub data SessionReply : Type 0 where
   Heaps : (heaps : List MTLHeap) → SessionReply
   Report : (report : reports.Report) → SessionReply
   Capacity : (bytes : ℕ) → SessionReply
+  -- no block ahead has a second place
+  NoPlace : SessionReply
   -- the number stands for something already, or for nothing
   Busy : SessionReply
   Unbound : SessionReply
@@ -46,6 +48,7 @@ reply_of answered.Done = Done
 reply_of (answered.Heaps heaps) = Heaps heaps.items
 reply_of (answered.Report report) = Report (report_of report)
 reply_of (answered.Capacity n) = Capacity n
+reply_of answered.NoPlace = NoPlace
 reply_of answered.Busy = Busy
 reply_of answered.Unbound = Unbound
 reply_of (answered.Error e) = Error (refusal_of e)

@@ -14,10 +14,10 @@ use Rattle.gpu_metal.specs.Step as model
 use Rattle.gpu_metal.specs.Step.{Step}
 use Rattle.gpu_metal.specs.declared.describe.AllocationCreateDesc.{AllocationCreateDesc}
 use Rattle.gpu_run.specs.Bindings.{Bindings, bind, AreOwn}
-use Rattle.gpu_run.specs.MetalCommand.{KeyCommand, Alloc, Free, SessionCommand, Under, Heaps, Commit, Report, Capacity, SetBudget}
+use Rattle.gpu_run.specs.MetalCommand.{KeyCommand, Alloc, Move, Free, SessionCommand, Under, Heaps, Commit, Report, Capacity, SetBudget}
 use Rattle.gpu_run.specs.MetalDescribe.{Described, described, AsksFor}
 use Rattle.gpu_run.specs.MetalReply as replies
-use Rattle.gpu_run.specs.MetalReply.{SessionReply, Allocated, Done, Busy, Unbound, Error, shown}
+use Rattle.gpu_run.specs.MetalReply.{SessionReply, Allocated, Done, NoPlace, Busy, Unbound, Error, shown}
 use Rattle.gpu_run.specs.declared.metal.describe.Wanted.{Wanted}
 
 -- ---- states
@@ -79,6 +79,31 @@ abbrev pub ServesAlloc : Properties → (key : ℕ) → Wanted → (name : List 
 ServesAlloc p key wanted name false met reply old new = (reply ≡ Error host_out_of_memory) × Stays met old new
 ServesAlloc p key wanted name true met reply old new = AllocatesBy key name (described p wanted) met reply old new
 
+-- what the allocator's reply to a proposed move binds and is answered
+abbrev pub BindsPlace : (to : ℕ) (name : List ℕ) → answers.Reply MTLHeap → SessionReply → (old new : Bindings Allocation) → Type 0
+BindsPlace to name (answers.SecondPlace t (Some p)) reply old new = (a : Allocation) × IsAllocated t name p a × (reply ≡ Allocated (shown t p)) × (new ≡ bind old to (Some a))
+BindsPlace to name (answers.SecondPlace t None) reply old new = (reply ≡ NoPlace) × (new ≡ old)
+BindsPlace to name (answers.Error r) reply old new = (reply ≡ Error r) × (new ≡ old)
+BindsPlace to name _ reply old new = ⊥
+
+-- the allocator is asked for a second place
+pub record Proposes (to : ℕ) (a : Allocation) (is : Described) (name : List ℕ) (met : Environment MTLHeap) (reply : SessionReply) (old new : SessionState) : Type 0 where
+  pub description : AllocationCreateDesc
+  pub asks : AsksFor is name description
+  pub model_reply : answers.Reply MTLHeap
+  pub step : Step (model.ProposeMove a description) met model_reply old.model new.model
+  pub binds : BindsPlace to name model_reply reply old.bound new.bound
+
+-- a second place under a free number: first room is made for the number
+abbrev pub ServesMoveTo : (to : ℕ) → Allocation → Described → (name : List ℕ) → (room : Bool) → Environment MTLHeap → SessionReply → SessionState → SessionState → Type 0
+ServesMoveTo to a is name false met reply old new = (reply ≡ Error host_out_of_memory) × Stays met old new
+ServesMoveTo to a is name true met reply old new = Proposes to a is name met reply old new
+
+-- the same under a number that may stand for an allocation
+abbrev pub ServesMove : (to : ℕ) → Option Allocation → Allocation → Described → (name : List ℕ) → CommandEnvironment → SessionReply → SessionState → SessionState → Type 0
+ServesMove to (Some b) a is name o reply old new = (reply ≡ Busy) × Stays o.met old new
+ServesMove to None a is name o reply old new = ServesMoveTo to a is name o.room o.met reply old new
+
 -- the allocation is freed, and the number stands for nothing
 pub record Frees (key : ℕ) (a : Allocation) (met : Environment MTLHeap) (reply : SessionReply) (old new : SessionState) : Type 0 where
   pub done : reply ≡ Done
@@ -88,11 +113,13 @@ pub record Frees (key : ℕ) (a : Allocation) (met : Environment MTLHeap) (reply
 -- under a number that stands for an allocation
 abbrev pub ServesBound : (key : ℕ) → Allocation → KeyCommand → CommandEnvironment → SessionReply → SessionState → SessionState → Type 0
 ServesBound key a (Alloc wanted name) o reply old new = (reply ≡ Busy) × Stays o.met old new
+ServesBound key a (Move to is name) o reply old new = ServesMove to (old.bound to) a is name o reply old new
 ServesBound key a Free o reply old new = Frees key a o.met reply old new
 
 -- under a number that stands for nothing
 abbrev pub ServesUnbound : Properties → (key : ℕ) → KeyCommand → CommandEnvironment → SessionReply → SessionState → SessionState → Type 0
 ServesUnbound p key (Alloc wanted name) o reply old new = ServesAlloc p key wanted name o.room o.met reply old new
+ServesUnbound p key (Move to is name) o reply old new = (reply ≡ Unbound) × Stays o.met old new
 ServesUnbound p key Free o reply old new = (reply ≡ Unbound) × Stays o.met old new
 
 -- by whether the number stands for an allocation

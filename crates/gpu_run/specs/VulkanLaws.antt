@@ -3,7 +3,7 @@ use Rattle.std.specs.Prelude.{◌≡◌, ℕ, ◌+◌, ◌<◌, ◌==◌, ◌&&�
 use Rattle.std.specs.List.{AllZip}
 use Rattle.gpu_vulkan.specs.EqualButBytes.{EqualButBytesCallEnvironment}
 use Rattle.gpu_vulkan.specs.Setup.{Setup}
-use Rattle.gpu_run.specs.VulkanCommand.{KeyCommand, Alloc, Write, Read, SessionCommand, Under}
+use Rattle.gpu_run.specs.VulkanCommand.{KeyCommand, Alloc, Move, Write, Read, SessionCommand, Under}
 use Rattle.gpu_run.specs.VulkanReply.{SessionReply, Allocated, Done, Bytes}
 use Rattle.gpu_run.specs.VulkanSession.{SessionState, SessionInvariant, CommandEnvironment, Runs}
 
@@ -31,6 +31,7 @@ everything key at = true
 
 abbrev pub written_after : SessionCommand → SessionReply → Written → Written
 written_after (Under new (Alloc wanted)) (Allocated shown) written key i = if new == key then false else written key i
+written_after (Under from (Move new wanted)) (Allocated shown) written key i = if new == key then false else written key i
 written_after (Under to (Write at bytes)) Done written key i = if (to == key) && (nat_le at i && nat_lt i (at + length bytes)) then true else written key i
 written_after command reply written key i = written key i
 

@@ -23,6 +23,8 @@ pub data SessionReply : Type 0 where
   -- the number stands for something already, or for nothing
   Busy : SessionReply
   Unbound : SessionReply
+  -- no block ahead has a second place
+  NoPlace : SessionReply
   -- the allocation has no bytes, or not so many
   Unmapped : SessionReply
   OutOfRange : SessionReply

@@ -12,8 +12,8 @@ use Rattle.gpu_vulkan.specs.Step.{model_of, count_after, latest_after}
 use Rattle.gpu_vulkan.specs.declared.allocation.Allocation.{Allocation}
 use Rattle.gpu_run.specs.Bindings.{bindings_of}
 use Rattle.gpu_run.specs.VulkanReply as replies
-use Rattle.gpu_run.specs.VulkanCommand.{SessionCommand, Alloc, Null, Free, Rename, Write, Read, Under, Report, Leaks, Capacity, SetBudget}
-use Rattle.gpu_run.specs.VulkanReply.{Shown, SessionReply, Allocated, Done, Bytes, Busy, Unbound, Unmapped, OutOfRange, Error}
+use Rattle.gpu_run.specs.VulkanCommand.{SessionCommand, wanted_of, Alloc, Move, Null, Free, Rename, Write, Read, Under, Report, Leaks, Capacity, SetBudget}
+use Rattle.gpu_run.specs.VulkanReply.{Shown, SessionReply, Allocated, Done, Bytes, Busy, Unbound, NoPlace, Unmapped, OutOfRange, Error}
 use Rattle.gpu_run.specs.VulkanSession.{SessionState, SessionInvariant, CommandEnvironment, Serves, Runs}
 use Rattle.gpu_run.specs.declared.vulkan.command.Command.{Command}
 use Rattle.gpu_run.specs.declared.vulkan.command.Command.TheVariants as asked
@@ -22,8 +22,8 @@ use Rattle.gpu_run.specs.declared.vulkan.reply.Reply.TheVariants as answered
 use Rattle.gpu_run.specs.declared.vulkan.reply.Allocated.{Allocated as AllocatedPiece}
 
 abbrev pub command_of : Command → SessionCommand
-command_of (asked.Alloc key requirements location linear scheme name) =
-    Under key (Alloc (record { requirements = requirements; location = location; linear = linear; scheme = scheme; name = string_bytes name }))
+command_of (asked.Alloc key request) = Under key (Alloc (wanted_of request))
+command_of (asked.Move key to request) = Under key (Move to (wanted_of request))
 command_of (asked.Null key) = Under key Null
 command_of (asked.Free key) = Under key Free
 command_of (asked.Rename key name) = Under key (Rename (string_bytes name))
@@ -66,6 +66,7 @@ reply_of (answered.Leaks texts) = replies.Leaks (map string_bytes texts.items)
 reply_of (answered.Capacity n) = replies.Capacity n
 reply_of answered.Busy = Busy
 reply_of answered.Unbound = Unbound
+reply_of answered.NoPlace = NoPlace
 reply_of answered.Unmapped = Unmapped
 reply_of answered.OutOfRange = OutOfRange
 reply_of (answered.Error e) = Error (refusal_of e)

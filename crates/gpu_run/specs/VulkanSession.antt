@@ -17,9 +17,9 @@ use Rattle.gpu_vulkan.specs.Step.{ModelState, CallEnvironment, MeetsNothing, IsR
 use Rattle.gpu_vulkan.specs.declared.allocation.Allocation.{Allocation}
 use Rattle.gpu_vulkan.specs.declared.describe.AllocationCreateDesc.{AllocationCreateDesc}
 use Rattle.gpu_run.specs.Bindings.{Bindings, bind}
-use Rattle.gpu_run.specs.VulkanCommand.{Wanted, Describes, KeyCommand, Alloc, Null, Free, Rename, Write, Read, SessionCommand, Under, Report, Leaks, Capacity, SetBudget}
+use Rattle.gpu_run.specs.VulkanCommand.{Wanted, Describes, KeyCommand, Alloc, Move, Null, Free, Rename, Write, Read, SessionCommand, Under, Report, Leaks, Capacity, SetBudget}
 use Rattle.gpu_run.specs.VulkanReply as replies
-use Rattle.gpu_run.specs.VulkanReply.{Shown, SessionReply, Allocated, Done, Bytes, Busy, Unbound, Unmapped, OutOfRange, Error}
+use Rattle.gpu_run.specs.VulkanReply.{Shown, SessionReply, Allocated, Done, Bytes, Busy, Unbound, NoPlace, Unmapped, OutOfRange, Error}
 
 -- ---- states
 
@@ -72,6 +72,30 @@ pub record AllocatesFor (setup : Setup) (key : ℕ) (w : Wanted) (o : CallEnviro
 abbrev pub ServesAlloc : Setup → (key : ℕ) → Wanted → (room : Bool) → CallEnvironment → SessionReply → SessionState → SessionState → Type 0
 ServesAlloc setup key w false o reply old new = MeetsNothing o × (reply ≡ Error host_out_of_memory) × (new ≡ old)
 ServesAlloc setup key w true o reply old new = AllocatesFor setup key w o reply old new
+
+-- what the allocator's reply to a proposed move binds and is answered
+abbrev pub BindsPlace : Setup → (to : ℕ) → Wanted → AllocationCreateDesc → answers.Reply → SessionReply → (old new : Bindings Allocation) → Type 0
+BindsPlace setup to w d (answers.SecondPlace t (Some p)) reply old new = (a : Allocation) × IsAllocated setup t d p a × (reply ≡ Allocated (shown setup w t p)) × (new ≡ bind old to (Some a))
+BindsPlace setup to w d (answers.SecondPlace t None) reply old new = (reply ≡ NoPlace) × (new ≡ old)
+BindsPlace setup to w d (answers.Error r) reply old new = (reply ≡ Error r) × (new ≡ old)
+BindsPlace setup to w d _ reply old new = ⊥
+
+pub record ProposesFor (setup : Setup) (to : ℕ) (a : Allocation) (w : Wanted) (o : CallEnvironment) (reply : SessionReply) (old new : SessionState) : Type 0 where
+  pub description : AllocationCreateDesc
+  pub describes : Describes description w
+  pub model_reply : answers.Reply
+  pub step : Step setup (model.ProposeMove a description) o model_reply old.model new.model
+  pub binds : BindsPlace setup to w description model_reply reply old.bound new.bound
+
+-- a second place under a free number: first room is made for the number
+abbrev pub ServesMoveTo : Setup → (to : ℕ) → Allocation → Wanted → (room : Bool) → CallEnvironment → SessionReply → SessionState → SessionState → Type 0
+ServesMoveTo setup to a w false o reply old new = MeetsNothing o × (reply ≡ Error host_out_of_memory) × (new ≡ old)
+ServesMoveTo setup to a w true o reply old new = ProposesFor setup to a w o reply old new
+
+-- the same under a number that may stand for an allocation
+abbrev pub ServesMove : Setup → (to : ℕ) → Option Allocation → Allocation → Wanted → CommandEnvironment → SessionReply → SessionState → SessionState → Type 0
+ServesMove setup to (Some b) a w o reply old new = (reply ≡ Busy) × Stays o old new
+ServesMove setup to None a w o reply old new = ServesMoveTo setup to a w o.room o.call reply old new
 
 -- a null allocation under a free number
 abbrev pub ServesNull : (key : ℕ) → (room : Bool) → SessionReply → SessionState → SessionState → Type 0
@@ -126,6 +150,7 @@ ReadsAt setup a at size o reply old new = (bytes : Option (List ℕ)) × IsRead 
 -- under a number that stands for an allocation
 abbrev pub ServesBound : Setup → (key : ℕ) → Allocation → KeyCommand → CommandEnvironment → SessionReply → SessionState → SessionState → Type 0
 ServesBound setup key a (Alloc w) o reply old new = (reply ≡ Busy) × Stays o old new
+ServesBound setup key a (Move to w) o reply old new = ServesMove setup to (old.bound to) a w o reply old new
 ServesBound setup key a Null o reply old new = (reply ≡ Busy) × Stays o old new
 ServesBound setup key a Free o reply old new = Frees setup key a o.call reply old new
 ServesBound setup key a (Rename name) o reply old new = Renames setup key a name o.call reply old new
@@ -135,6 +160,7 @@ ServesBound setup key a (Read at size) o reply old new = ReadsAt setup a at size
 -- under a number that stands for nothing
 abbrev pub ServesUnbound : Setup → (key : ℕ) → KeyCommand → CommandEnvironment → SessionReply → SessionState → SessionState → Type 0
 ServesUnbound setup key (Alloc w) o reply old new = ServesAlloc setup key w o.room o.call reply old new
+ServesUnbound setup key (Move to w) o reply old new = (reply ≡ Unbound) × Stays o old new
 ServesUnbound setup key Null o reply old new = MeetsNothing o.call × ServesNull key o.room reply old new
 ServesUnbound setup key Free o reply old new = (reply ≡ Unbound) × Stays o old new
 ServesUnbound setup key (Rename name) o reply old new = (reply ≡ Unbound) × Stays o old new

@@ -5,6 +5,6 @@ mod describe;
 mod reply;
 mod session;
 
-pub use command::Command;
+pub use command::{Command, Request};
 pub use reply::{Allocated, Reply};
 pub use session::Session;

@@ -1,3 +1,3 @@
 //! Sessions over the Metal allocator.
 
-pub use gpu_run::metal::{Allocated, Command, Reply, Session};
+pub use gpu_run::metal::{Allocated, Command, Reply, Request, Session};

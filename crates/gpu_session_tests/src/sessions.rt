@@ -4,7 +4,7 @@ mod refused;
 
 use crate::check;
 use gpu_allocator::vulkan::*;
-use gpu_session::{Command, Reply, Session};
+use gpu_session::{Command, Reply, Request, Session};
 use gpu_sim::SimVulkan;
 use gpu_values::{AllocationError, AllocationSizes, AllocatorDebugSettings, MemoryLocation};
 use log::sink::Discard;
@@ -68,6 +68,8 @@ struct Piece<'a> {
 #[derive(Clone, Copy)]
 enum Call<'a> {
     Take(u64, Piece<'a>),
+    /// A second place of the first number's piece under the second.
+    Move(u64, u64, Piece<'a>),
     /// Writes at this offset.
     Write(u64, u64, &'a [u8]),
     /// Reads so many bytes behind this offset.
@@ -76,9 +78,8 @@ enum Call<'a> {
     Capacity,
 }
 
-fn request_of(alloc: Global, key: u64, piece: Piece) -> std::result::Result<Command, AllocError> {
-    Ok(Command::Alloc {
-        key,
+fn request_of(alloc: Global, piece: Piece) -> std::result::Result<Request, AllocError> {
+    Ok(Request {
         requirements: MemoryRequirements {
             size: piece.size,
             alignment: piece.alignment,
@@ -93,7 +94,15 @@ fn request_of(alloc: Global, key: u64, piece: Piece) -> std::result::Result<Comm
 
 fn command_of(alloc: Global, call: Call) -> std::result::Result<Command, AllocError> {
     match call {
-        Call::Take(key, piece) => request_of(alloc, key, piece),
+        Call::Take(key, piece) => Ok(Command::Alloc {
+            key,
+            request: request_of(alloc, piece)?,
+        }),
+        Call::Move(key, to, piece) => Ok(Command::Move {
+            key,
+            to,
+            request: request_of(alloc, piece)?,
+        }),
         Call::Write(key, at, bytes) => Ok(Command::Write {
             key,
             at,
@@ -129,6 +138,99 @@ fn upload(name: &str) -> Piece<'_> {
         location: MemoryLocation::CpuToGpu,
         name,
     }
+}
+
+/// So many megabytes.
+fn megabytes(count: u64) -> Piece<'static> {
+    Piece {
+        size: count * MB,
+        alignment: 1,
+        location: MemoryLocation::CpuToGpu,
+        name: "large",
+    }
+}
+
+/// In blocks of 4 MB the pieces 1 and 3 fill the block in slot 0, and 2 and 4 the one in slot 1. With 4 gone, 3 has a second place
+/// there and 1 has none. With 3 and 1 gone, the block in slot 0 goes.
+fn moves(alloc: Global) -> std::result::Result<Vec<Command>, AllocError> {
+    let calls = [
+        Call::Take(1, megabytes(3)),
+        Call::Take(2, megabytes(2)),
+        Call::Take(4, megabytes(2)),
+        Call::Take(3, megabytes(1)),
+        Call::Move(3, 5, megabytes(1)),
+        Call::Free(4),
+        Call::Move(1, 5, megabytes(3)),
+        Call::Move(3, 2, megabytes(1)),
+        Call::Move(6, 5, megabytes(1)),
+        Call::Move(3, 5, megabytes(2)),
+        Call::Move(3, 5, megabytes(1)),
+        Call::Free(3),
+        Call::Free(1),
+        Call::Capacity,
+    ];
+    commands_of(alloc, &calls)
+}
+
+/// The slot of a new allocation.
+fn slot_of(reply: &Reply) -> Option<usize> {
+    match reply {
+        Reply::Allocated(given) => Some(given.slot),
+        _ => None,
+    }
+}
+
+/// Whether no move is made but the one that there is a place for: behind the piece 2, with a number of its own.
+fn moves_are(replies: &[Reply]) -> bool {
+    let [
+        _,
+        _,
+        _,
+        _,
+        full,
+        _,
+        long,
+        busy,
+        unbound,
+        other,
+        placed,
+        _,
+        _,
+        capacity,
+    ] = replies
+    else {
+        return false;
+    };
+    matches!(full, Reply::NoPlace)
+        && matches!(long, Reply::NoPlace)
+        && matches!(busy, Reply::Busy)
+        && matches!(unbound, Reply::Unbound)
+        && matches!(
+            other,
+            Reply::Error(AllocationError::InvalidAllocationCreateDesc)
+        )
+        && given_at(placed) == Some((2 * MB, MB, 3))
+        && slot_of(placed) == Some(1)
+        && matches!(capacity, Reply::Capacity(4_194_304))
+}
+
+/// Whether a session over blocks of 4 MB answers these commands so, and its device holds nothing at last.
+fn moved(alloc: Global) -> Option<bool> {
+    let commands = moves(alloc).ok()?;
+    let device = simulated(alloc).ok()?;
+    let Ok(a) = made(alloc, device, AllocationSizes::new(4 * MB, 4 * MB)) else {
+        return None;
+    };
+    let mut s = Session::new(alloc, a);
+    let ran = s.run(&Discard, &commands);
+    let held = s.destroy(&Discard).held();
+    let replies = ran.ok()?;
+    Some(moves_are(&replies) && held == 0)
+}
+
+#[test]
+fn a_piece_moves_to_a_higher_slot(rt: HostRuntime) {
+    check(&rt, &[moved(rt.alloc()) == Some(true)]);
 }
 
 /// Two parties, 1 and 2: the second writes `theirs`, and what the first has taken after the second gave its piece back begins

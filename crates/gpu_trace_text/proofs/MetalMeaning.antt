@@ -5,7 +5,7 @@ use Rattle.std.specs.Fmt.{decimal}
 use Rattle.std.specs.Prelude.{codes}
 use Rattle.gpu_device.specs.declared.metal.types.StorageMode.{StorageMode}
 use Rattle.gpu_run.specs.declared.metal.command.Command.{Command}
-use Rattle.gpu_run.specs.declared.metal.command.Command.TheVariants.{Alloc, Buffer, AccelerationStructure, Texture, Free, Heaps, Commit, Report, Capacity, SetBudget}
+use Rattle.gpu_run.specs.declared.metal.command.Command.TheVariants.{Alloc, Move, Buffer, AccelerationStructure, Texture, Free, Heaps, Commit, Report, Capacity, SetBudget}
 use Rattle.gpu_trace_text.specs.MetalCommand as commands
 use Rattle.gpu_trace_text.specs.MetalCommand.{mode_word, FitsMode}
 use Rattle.gpu_block_session.specs.Words.{texts}
@@ -20,7 +20,8 @@ no_texture (k ∷ m ∷ w ∷ h ∷ b ∷ rest) d none (Texture key t name) s =
     let is = s.is in
     none t.storage_mode t.width t.height t.bytes_per_texel f.mode_fits f.width_fits f.height_fits f.bytes_fit (cc) (cc) (cc) (cc)
 no_texture arguments d none (Texture key t name) s = let is = s.is in cc
-no_texture arguments d none (Alloc key size alignment location name) s = let is = s.is in cc
+no_texture arguments d none (Alloc key request) s = let is = s.is in cc
+no_texture arguments d none (Move key to request) s = let is = s.is in cc
 no_texture arguments d none (Buffer key length location name) s = let is = s.is in cc
 no_texture arguments d none (AccelerationStructure key size location name) s = let is = s.is in cc
 no_texture arguments d none (Free key) s = let is = s.is in cc

@@ -45,6 +45,7 @@ by_word w =
     (choose (bytes_eq w (codes "new")) makes
     (choose (bytes_eq w (codes "destroy")) destroys
     (choose (bytes_eq w (codes "alloc")) asks
+    (choose (bytes_eq w (codes "move")) asks
     (choose (bytes_eq w (codes "null")) asks
     (choose (bytes_eq w (codes "free")) asks
     (choose (bytes_eq w (codes "rename")) asks
@@ -52,7 +53,7 @@ by_word w =
     (choose (bytes_eq w (codes "read")) asks
     (choose (bytes_eq w (codes "leaks")) asks
     (choose (bytes_eq w (codes "capacity")) asks
-    (choose (bytes_eq w (codes "budget")) asks says_nothing)))))))))))))))))))
+    (choose (bytes_eq w (codes "budget")) asks says_nothing))))))))))))))))))))
 
 abbrev by_words : List (List ℕ) → Sort
 by_words [] = says_nothing
@@ -73,7 +74,8 @@ of_setting (Refuse question refusal) = refl
 
 -- `report` is read as a line of block traces
 of_ask : (c : asks_commands.Command) → ask.Fits c → by_words (ask.words c) ≡ asks
-of_ask (asked.Alloc key r location linear scheme name) f = refl
+of_ask (asked.Alloc key request) f = refl
+of_ask (asked.Move key to request) f = refl
 of_ask (asked.Null key) f = refl
 of_ask (asked.Free key) f = refl
 of_ask (asked.Rename key name) f = refl

@@ -7,7 +7,8 @@ use Rattle.gpu_device.specs.declared.vulkan.types.AllocationScheme.{AllocationSc
 use Rattle.gpu_device.specs.declared.vulkan.types.AllocationScheme.TheVariants.{DedicatedBuffer, DedicatedImage, GpuAllocatorManaged}
 use Rattle.gpu_device.specs.declared.vulkan.types.MemoryRequirements.{MemoryRequirements}
 use Rattle.gpu_run.specs.declared.vulkan.command.Command.{Command}
-use Rattle.gpu_run.specs.declared.vulkan.command.Command.TheVariants.{Alloc, Null, Free, Rename, Write, Read, Report, Leaks, Capacity, SetBudget}
+use Rattle.gpu_run.specs.declared.vulkan.command.Request.{Request}
+use Rattle.gpu_run.specs.declared.vulkan.command.Command.TheVariants.{Alloc, Move, Null, Free, Rename, Write, Read, Report, Leaks, Capacity, SetBudget}
 use Rattle.gpu_trace_text.specs.Hex.{hex, AreBytes}
 use Rattle.gpu_block_session.specs.Words.{IsName}
 
@@ -30,10 +31,16 @@ abbrev pub budget_word : Option ℕ → List ℕ
 budget_word None = codes "none"
 budget_word (Some bytes) = decimal bytes
 
+-- a request's words, behind the numbers that it is asked under
+abbrev pub request_words : Request → List (List ℕ)
+request_words r =
+    decimal r.requirements.size ∷ decimal r.requirements.alignment ∷ decimal r.requirements.memory_type_bits
+    ∷ location_word r.location ∷ linear_word r.linear ∷ scheme_word r.scheme ∷ string_bytes r.name ∷ []
+
 -- `report` is a line of block traces too, and is read there
 abbrev pub words : Command → List (List ℕ)
-words (Alloc key r location linear scheme name) =
-    codes "alloc" ∷ decimal key ∷ decimal r.size ∷ decimal r.alignment ∷ decimal r.memory_type_bits ∷ location_word location ∷ linear_word linear ∷ scheme_word scheme ∷ string_bytes name ∷ []
+words (Alloc key request) = codes "alloc" ∷ decimal key ∷ request_words request
+words (Move key to request) = codes "move" ∷ decimal key ∷ decimal to ∷ request_words request
 words (Null key) = codes "null" ∷ decimal key ∷ []
 words (Free key) = codes "free" ∷ decimal key ∷ []
 words (Rename key name) = codes "rename" ∷ decimal key ∷ string_bytes name ∷ []
@@ -54,6 +61,22 @@ pub record FitsRequirements (r : MemoryRequirements) : Type 0 where
   pub alignment_fits : r.alignment < 2 ^ 64
   pub bits_fit : r.memory_type_bits < 2 ^ 32
 
+-- what a request's numbers and name may be
+pub record FitsRequest (r : Request) : Type 0 where
+  pub requirements_fit : FitsRequirements r.requirements
+  pub scheme_fits : FitsScheme r.scheme
+  pub name_fits : IsName (string_bytes r.name)
+
+-- these words are the request's
+pub record SpellsRequest (line : List (List ℕ)) (r : Request) : Type 0 where
+  pub is : line ≡ request_words r
+  pub fits : FitsRequest r
+
+-- the words are this request's, or no request's
+abbrev pub SaysRequest : List (List ℕ) → Option Request → Type 0
+SaysRequest line (Some r) = SpellsRequest line r
+SaysRequest line None = (r : Request) → SpellsRequest line r → ⊥
+
 -- 1 to 4096
 abbrev pub IsLength : ℕ → Type 0
 IsLength n = (0 < n) × (n ≤ 4096)
@@ -68,7 +91,8 @@ FitsBudget (Some bytes) = bytes < 2 ^ 64
 
 -- what a command's numbers, names and bytes may be
 abbrev pub Fits : Command → Type 0
-Fits (Alloc key r location linear scheme name) = (key < 2 ^ 64) × FitsRequirements r × FitsScheme scheme × IsName (string_bytes name)
+Fits (Alloc key request) = (key < 2 ^ 64) × FitsRequest request
+Fits (Move key to request) = (key < 2 ^ 64) × (to < 2 ^ 64) × FitsRequest request
 Fits (Null key) = key < 2 ^ 64
 Fits (Free key) = key < 2 ^ 64
 Fits (Rename key name) = (key < 2 ^ 64) × IsName (string_bytes name)

@@ -2,15 +2,20 @@
 use Rattle.std.specs.Prelude.{◌≡◌, ℕ, ◌<◌, ◌^◌, List, [], ◌∷◌, Option, Some, None, codes, string_bytes}
 use Rattle.std.specs.Fmt.{decimal}
 use Rattle.gpu_run.specs.declared.d3d12.command.Command.{Command}
-use Rattle.gpu_run.specs.declared.d3d12.command.Command.TheVariants.{Alloc, Free, Rename, Create, Release, Leaks, Report, Capacity, Committed, SetBudget}
+use Rattle.gpu_run.specs.declared.d3d12.command.Request.{Request}
+use Rattle.gpu_run.specs.declared.d3d12.command.Command.TheVariants.{Alloc, Move, Free, Rename, Create, Release, Leaks, Report, Capacity, Committed, SetBudget}
 use Rattle.gpu_trace_text.specs.Ask.{location_word, budget_word, FitsBudget}
 use Rattle.gpu_block_session.specs.Words.{IsName}
 use Rattle.gpu_trace_text.specs.D3D12Resource.{category_word, wanted_words, FitsWanted}
 
+-- a request's words, behind the numbers that it is asked under
+abbrev pub request_words : Request → List (List ℕ)
+request_words r = decimal r.size ∷ decimal r.alignment ∷ location_word r.location ∷ category_word r.category ∷ string_bytes r.name ∷ []
+
 -- a command's words
 abbrev pub words : Command → List (List ℕ)
-words (Alloc key size alignment location category name) =
-    codes "alloc" ∷ decimal key ∷ decimal size ∷ decimal alignment ∷ location_word location ∷ category_word category ∷ string_bytes name ∷ []
+words (Alloc key request) = codes "alloc" ∷ decimal key ∷ request_words request
+words (Move key to request) = codes "move" ∷ decimal key ∷ decimal to ∷ request_words request
 words (Free key) = codes "free" ∷ decimal key ∷ []
 words (Rename key name) = codes "rename" ∷ decimal key ∷ string_bytes name ∷ []
 words (Create key wanted) = codes "create" ∷ decimal key ∷ wanted_words wanted
@@ -21,9 +26,26 @@ words Capacity = codes "capacity" ∷ []
 words (Committed t) = codes "committed" ∷ decimal t ∷ []
 words (SetBudget t budget) = codes "budget" ∷ decimal t ∷ budget_word budget ∷ []
 
+-- what a request's numbers and name may be
+pub record FitsRequest (r : Request) : Type 0 where
+  pub size_fits : r.size < 2 ^ 64
+  pub alignment_fits : r.alignment < 2 ^ 64
+  pub name_fits : IsName (string_bytes r.name)
+
+-- these words are the request's
+pub record SpellsRequest (line : List (List ℕ)) (r : Request) : Type 0 where
+  pub is : line ≡ request_words r
+  pub fits : FitsRequest r
+
+-- the words are this request's, or no request's
+abbrev pub SaysRequest : List (List ℕ) → Option Request → Type 0
+SaysRequest line (Some r) = SpellsRequest line r
+SaysRequest line None = (r : Request) → SpellsRequest line r → ⊥
+
 -- what a command's numbers and names may be
 abbrev pub Fits : Command → Type 0
-Fits (Alloc key size alignment location category name) = (key < 2 ^ 64) × (size < 2 ^ 64) × (alignment < 2 ^ 64) × IsName (string_bytes name)
+Fits (Alloc key request) = (key < 2 ^ 64) × FitsRequest request
+Fits (Move key to request) = (key < 2 ^ 64) × (to < 2 ^ 64) × FitsRequest request
 Fits (Free key) = key < 2 ^ 64
 Fits (Rename key name) = (key < 2 ^ 64) × IsName (string_bytes name)
 Fits (Create key wanted) = (key < 2 ^ 64) × FitsWanted wanted

@@ -122,6 +122,7 @@ served_text (replies.Leaks texts) = leaks_text (map string_bytes texts.items)
 served_text (replies.Report r) = report_text r
 served_text (replies.Capacity bytes) = decimal bytes
 served_text (replies.Committed statistics) = statistics_text statistics
+served_text replies.NoPlace = codes "none"
 served_text replies.Busy = codes "busy"
 served_text replies.Unbound = codes "unbound"
 served_text (replies.Error e) = codes "error " ++ number_text (number_of e)

@@ -50,6 +50,7 @@ served_text (replies.Leaks texts) = leaks_text (map string_bytes texts.items)
 served_text (replies.Capacity bytes) = decimal bytes
 served_text replies.Busy = codes "busy"
 served_text replies.Unbound = codes "unbound"
+served_text replies.NoPlace = codes "none"
 served_text replies.Unmapped = codes "none"
 served_text replies.OutOfRange = codes "range"
 served_text (replies.Error e) = codes "error " ++ number_text (number_of e)

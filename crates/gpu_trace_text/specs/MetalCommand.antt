@@ -5,7 +5,8 @@ use Rattle.gpu_device.specs.declared.metal.types.StorageMode.{StorageMode}
 use Rattle.gpu_device.specs.declared.metal.types.StorageMode.TheVariants.{Shared, Managed, Private, Memoryless, Other}
 use Rattle.gpu_device.specs.declared.metal.types.TextureDescriptor.{TextureDescriptor}
 use Rattle.gpu_run.specs.declared.metal.command.Command.{Command}
-use Rattle.gpu_run.specs.declared.metal.command.Command.TheVariants.{Alloc, Buffer, AccelerationStructure, Texture, Free, Heaps, Commit, Report, Capacity, SetBudget}
+use Rattle.gpu_run.specs.declared.metal.command.Request.{Request}
+use Rattle.gpu_run.specs.declared.metal.command.Command.TheVariants.{Alloc, Move, Buffer, AccelerationStructure, Texture, Free, Heaps, Commit, Report, Capacity, SetBudget}
 use Rattle.gpu_trace_text.specs.Ask.{location_word, budget_word, FitsBudget}
 use Rattle.gpu_block_session.specs.Words.{IsName}
 
@@ -17,9 +18,14 @@ mode_word Private = codes "private"
 mode_word Memoryless = codes "memoryless"
 mode_word (Other mode) = codes "other:" ++ decimal mode
 
+-- the words of a request for a piece, behind the numbers that it is asked under
+abbrev pub request_words : Request → List (List ℕ)
+request_words r = decimal r.size ∷ decimal r.alignment ∷ location_word r.location ∷ string_bytes r.name ∷ []
+
 -- a command's words
 abbrev pub words : Command → List (List ℕ)
-words (Alloc key size alignment location name) = codes "alloc" ∷ decimal key ∷ decimal size ∷ decimal alignment ∷ location_word location ∷ string_bytes name ∷ []
+words (Alloc key request) = codes "alloc" ∷ decimal key ∷ request_words request
+words (Move key to request) = codes "move" ∷ decimal key ∷ decimal to ∷ request_words request
 words (Buffer key length location name) = codes "buffer" ∷ decimal key ∷ decimal length ∷ location_word location ∷ string_bytes name ∷ []
 words (AccelerationStructure key size location name) = codes "structure" ∷ decimal key ∷ decimal size ∷ location_word location ∷ string_bytes name ∷ []
 words (Texture key t name) =
@@ -30,6 +36,22 @@ words Commit = codes "commit" ∷ []
 words Report = codes "report" ∷ []
 words Capacity = codes "capacity" ∷ []
 words (SetBudget t budget) = codes "budget" ∷ decimal t ∷ budget_word budget ∷ []
+
+-- what the numbers and the name of a request for a piece may be
+pub record FitsRequest (r : Request) : Type 0 where
+  pub size_fits : r.size < 2 ^ 64
+  pub alignment_fits : r.alignment < 2 ^ 64
+  pub name_fits : IsName (string_bytes r.name)
+
+-- these words are the request's
+pub record SpellsRequest (line : List (List ℕ)) (r : Request) : Type 0 where
+  pub is : line ≡ request_words r
+  pub fits : FitsRequest r
+
+-- the words are this request's, or no request's
+abbrev pub SaysRequest : List (List ℕ) → Option Request → Type 0
+SaysRequest line (Some r) = SpellsRequest line r
+SaysRequest line None = (r : Request) → SpellsRequest line r → ⊥
 
 -- a mode told by its number has 32 bits
 abbrev pub FitsMode : StorageMode → Type 0
@@ -48,7 +70,8 @@ pub record FitsTexture (t : TextureDescriptor) : Type 0 where
 
 -- what a command's numbers and names may be
 abbrev pub Fits : Command → Type 0
-Fits (Alloc key size alignment location name) = (key < 2 ^ 64) × (size < 2 ^ 64) × (alignment < 2 ^ 64) × IsName (string_bytes name)
+Fits (Alloc key request) = (key < 2 ^ 64) × FitsRequest request
+Fits (Move key to request) = (key < 2 ^ 64) × (to < 2 ^ 64) × FitsRequest request
 Fits (Buffer key length location name) = (key < 2 ^ 64) × (length < 2 ^ 64) × IsName (string_bytes name)
 Fits (AccelerationStructure key size location name) = (key < 2 ^ 64) × (size < 2 ^ 64) × IsName (string_bytes name)
 Fits (Texture key t name) = (key < 2 ^ 64) × FitsTexture t × IsName (string_bytes name)

@@ -56,6 +56,7 @@ served_text replies.Done = codes "ok"
 served_text (replies.Heaps heaps) = heaps_text heaps.items
 served_text (replies.Report r) = report_text r
 served_text (replies.Capacity bytes) = decimal bytes
+served_text replies.NoPlace = codes "none"
 served_text replies.Busy = codes "busy"
 served_text replies.Unbound = codes "unbound"
 served_text (replies.Error e) = codes "error " ++ number_text (number_of e)

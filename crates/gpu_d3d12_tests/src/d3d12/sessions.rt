@@ -3,7 +3,7 @@
 use super::resources::{IN_STATE, PROPERTIES};
 use super::*;
 use gpu_device::d3d12::HeapFlags;
-use gpu_run::d3d12::{Command, Memory, Reply, Session, WantedResource};
+use gpu_run::d3d12::{Command, Memory, Reply, Request, Session, WantedResource};
 use std::alloc::AllocError;
 
 /// Asks for a buffer of 65,536 bytes with this memory.
@@ -24,9 +24,8 @@ fn create(alloc: Global, key: u64, name: String, memory: Memory) -> Command {
 }
 
 /// Asks for a piece.
-fn piece(name: String) -> Command {
-    Command::Alloc {
-        key: 7,
+fn piece(name: String) -> Request {
+    Request {
         size: 512,
         alignment: 256,
         location: MemoryLocation::GpuOnly,
@@ -35,9 +34,21 @@ fn piece(name: String) -> Command {
     }
 }
 
+/// Asks for a second place of such a piece.
+fn moved(key: u64, to: u64, name: String) -> Command {
+    Command::Move {
+        key,
+        to,
+        request: piece(name),
+    }
+}
+
 /// Names of this text.
-fn names(alloc: Global) -> std::result::Result<[String; 5], AllocError> {
+fn names(alloc: Global) -> std::result::Result<[String; 8], AllocError> {
     Ok([
+        String::from_str(alloc, "a")?,
+        String::from_str(alloc, "a")?,
+        String::from_str(alloc, "a")?,
         String::from_str(alloc, "a")?,
         String::from_str(alloc, "b")?,
         String::from_str(alloc, "buffer")?,
@@ -46,12 +57,19 @@ fn names(alloc: Global) -> std::result::Result<[String; 5], AllocError> {
     ])
 }
 
-/// A piece and two resources under three numbers, what is told of them, and all but the committed resource given back.
-fn commands(alloc: Global, names: [String; 5]) -> [Command; 13] {
-    let [a, b, first, second, third] = names;
+/// A piece, and moves of it: there is no block ahead, its own number is taken, and another stands for nothing. Then two
+/// resources, what is told of them, and all but the committed resource given back.
+fn commands(alloc: Global, names: [String; 8]) -> [Command; 16] {
+    let [none_ahead, taken, unbound, a, b, first, second, third] = names;
     let own = Memory::Own(PROPERTIES, HeapFlags(0));
     [
-        piece(a),
+        Command::Alloc {
+            key: 7,
+            request: piece(a),
+        },
+        moved(7, 8, none_ahead),
+        moved(7, 7, taken),
+        moved(8, 9, unbound),
         create(alloc, 7, first, Memory::Placed),
         create(alloc, 8, second, own),
         create(alloc, 8, third, Memory::Placed),
@@ -80,6 +98,7 @@ fn letter(reply: &Reply) -> char {
         Reply::Report(_) => 'r',
         Reply::Capacity(_) => 'c',
         Reply::Committed(_) => 's',
+        Reply::NoPlace => 'n',
         Reply::Busy => 'b',
         Reply::Unbound => 'u',
         Reply::Error(_) => 'e',
@@ -102,7 +121,7 @@ fn replies_are(session: &mut Session<SimD3D12>, commands: &[Command], want: &[ch
 }
 
 const REPLIES: &[char] = &[
-    'g', 'm', 'm', 'b', 's', 'r', 'l', 'c', 'd', 'd', 'u', 'd', 'e',
+    'g', 'n', 'b', 'u', 'm', 'm', 'b', 's', 'r', 'l', 'c', 'd', 'd', 'u', 'd', 'e',
 ];
 
 /// Whether a session replies so, and its device holds the committed resource at last.

@@ -34,18 +34,30 @@ pub struct WantedResource {
     pub memory: Memory,
 }
 
+/// What a piece is asked for: so many bytes, at a multiple of the alignment.
+#[derive(Drop)]
+pub struct Request {
+    pub size: u64,
+    pub alignment: u64,
+    pub location: MemoryLocation,
+    pub category: ResourceCategory,
+    pub name: String,
+}
+
 /// A command to a session. `key` is the caller's own number of an allocation, of a resource in `Create` and `Release`: one
 /// number may stand for one of both. Sizes and alignments are bytes.
 #[derive(Drop)]
 pub enum Command {
-    /// Asks for a piece of this size at a multiple of this alignment, and binds the number to it.
+    /// Asks for a piece, and binds the number to it.
     Alloc {
         key: u64,
-        size: u64,
-        alignment: u64,
-        location: MemoryLocation,
-        category: ResourceCategory,
-        name: String,
+        request: Request,
+    },
+    /// Asks for a second place of the allocation, by its request again, and binds the number `to` to it.
+    Move {
+        key: u64,
+        to: u64,
+        request: Request,
     },
     /// Frees the allocation; the number is free again.
     Free {

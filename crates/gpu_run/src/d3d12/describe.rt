@@ -1,10 +1,23 @@
-//! What the allocator is asked for a resource.
+//! What the allocator is asked for a piece and for a resource.
 
 ghost use Rattle.std.specs.Prelude.{◌≡◌};
-ghost use Rattle.gpu_run.specs.D3D12Describe.{memory_of, AsksForResource};
+ghost use Rattle.gpu_run.specs.D3D12Describe.{memory_of, wanted_of, AsksFor, AsksForResource};
 
-use crate::d3d12::command::{Memory, WantedResource};
-use gpu_d3d12::{ResourceCreateDesc, ResourceType};
+use crate::d3d12::command::{Memory, Request, WantedResource};
+use gpu_d3d12::{AllocationCreateDesc, ResourceCreateDesc, ResourceType};
+
+/// The description of a piece.
+pub(crate) fn describe_piece(request: &Request) -> AllocationCreateDesc<'_>
+    ensures { AsksFor (wanted_of request.now) result }
+{
+    AllocationCreateDesc {
+        name: request.name.as_str(),
+        location: request.location,
+        size: request.size,
+        alignment: request.alignment,
+        resource_category: request.category,
+    }
+}
 
 /// Where the memory comes from, in the allocator's words.
 pub(crate) fn resource_type(memory: &Memory) -> ResourceType<'_>

@@ -45,7 +45,9 @@ pub enum Reply {
     Capacity(u64),
     /// How many committed resources there are, and their sizes' sum in bytes; `None` where there is no such memory type.
     Committed(Option<CommittedAllocationStatistics>),
-    /// The number stands for something already.
+    /// No block ahead of the allocation's has a second place.
+    NoPlace,
+    /// The number, of a second place its own, stands for something already.
     Busy,
     /// The number stands for nothing.
     Unbound,

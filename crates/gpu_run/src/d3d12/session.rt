@@ -11,7 +11,7 @@ ghost use Rattle.gpu_d3d12.specs.State.{basis_of, beside_of};
 ghost use Rattle.gpu_pool.specs.Handles.{all_handles};
 ghost use Rattle.gpu_block_session.specs.CommandList.{IsRun};
 ghost use Rattle.gpu_run.specs.D3D12Command as commands;
-ghost use Rattle.gpu_run.specs.D3D12Command.{Alloc, Free, Rename, Create, Release, Under, UnderResource, command_of};
+ghost use Rattle.gpu_run.specs.D3D12Command.{Alloc, Move, Free, Rename, Create, Release, Under, UnderResource, command_of};
 ghost use Rattle.gpu_run.specs.D3D12Describe.{Wanted, AsksFor, AsksForResource};
 ghost use Rattle.gpu_run.specs.D3D12Reply as replies;
 ghost use Rattle.gpu_run.specs.D3D12Reply.{reply_of, shown, shown_of, shown_resource};
@@ -20,7 +20,7 @@ ghost use Rattle.gpu_run.specs.D3D12Served.{session_of, IsConstant, IsAnswered, 
 ghost use Rattle.gpu_run.specs.declared.d3d12.command.WantedResource.{WantedResource};
 
 use crate::d3d12::command::{Command, WantedResource};
-use crate::d3d12::describe::{describe, resource_type};
+use crate::d3d12::describe::{describe, describe_piece, resource_type};
 use crate::d3d12::reply::{Allocated, Made, Reply};
 use crate::{Machine, bind};
 use gpu_d3d12::{
@@ -172,22 +172,9 @@ impl<D: D3D12Device> Session<D> {
             self.new }
     {
         match command {
-            Command::Alloc {
-                key,
-                size,
-                alignment,
-                location,
-                category,
-                name,
-            } => {
-                let desc = AllocationCreateDesc {
-                    name: name.as_str(),
-                    location: *location,
-                    size: *size,
-                    alignment: *alignment,
-                    resource_category: *category,
-                };
-                self.allocate(log, *key, &desc)
+            Command::Alloc { key, request } => self.allocate(log, *key, &describe_piece(request)),
+            Command::Move { key, to, request } => {
+                self.propose_move(*key, *to, &describe_piece(request))
             }
             Command::Free { key } => self.free(log, *key),
             Command::Rename { key, name } => self.rename(*key, name.as_str()),
@@ -223,6 +210,34 @@ impl<D: D3D12Device> Session<D> {
             Ok(allocation) => {
                 let given = allocated(&allocation);
                 bind(&mut self.bound, key, allocation);
+                Reply::Allocated(given)
+            }
+        }
+    }
+
+    /// Room for the second number is made before the allocator is asked.
+    fn propose_move(&mut self, key: u64, to: u64, desc: &AllocationCreateDesc) -> Reply
+        ensures { (w : Wanted) → AsksFor w desc.now
+            → IsAnswered D.D3D12Device (Under key (Move to w)) (reply_of result) self.old self.new }
+    {
+        if !self.bound.contains_key(&key) {
+            return Reply::Unbound;
+        }
+        if self.bound.contains_key(&to) {
+            return Reply::Busy;
+        }
+        if self.bound.reserve(1).is_err() {
+            return Reply::Error(AllocationError::HostOutOfMemory);
+        }
+        let Some(from) = self.bound.get(&key) else {
+            unreachable!()
+        };
+        match self.allocator.propose_move(from, desc) {
+            Err(error) => Reply::Error(error),
+            Ok(None) => Reply::NoPlace,
+            Ok(Some(second)) => {
+                let given = allocated(&second);
+                bind(&mut self.bound, to, second);
                 Reply::Allocated(given)
             }
         }

@@ -3,16 +3,28 @@
 use gpu_device::metal::TextureDescriptor;
 use gpu_values::MemoryLocation;
 
+/// What a piece is asked for: so many bytes, at a multiple of the alignment.
+#[derive(Debug, Drop)]
+pub struct Request {
+    pub size: u64,
+    pub alignment: u64,
+    pub location: MemoryLocation,
+    pub name: String,
+}
+
 /// A command to a session. `key` is the caller's own number of an allocation; sizes and alignments are bytes.
 #[derive(Debug, Drop)]
 pub enum Command {
-    /// Asks for a piece of this size at a multiple of this alignment, and binds the number to it.
+    /// Asks for a piece, and binds the number to it.
     Alloc {
         key: u64,
-        size: u64,
-        alignment: u64,
-        location: MemoryLocation,
-        name: String,
+        request: Request,
+    },
+    /// Asks for a second place of the allocation, by its request again, and binds the number `to` to it.
+    Move {
+        key: u64,
+        to: u64,
+        request: Request,
     },
     /// Asks for a buffer's piece: the device tells its size and alignment.
     Buffer {

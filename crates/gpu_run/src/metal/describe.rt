@@ -1,9 +1,11 @@
 //! What a description asks for, as the device tells it.
 
-ghost use Rattle.std.specs.Prelude.{◌≡◌, Err, MatchResult};
+ghost use Rattle.std.specs.Prelude.{◌≡◌, Err, MatchResult, string_bytes};
 ghost use Rattle.gpu_values.specs.Refusal.{refusal_of};
-ghost use Rattle.gpu_run.specs.MetalDescribe.{described, Describes};
+ghost use Rattle.gpu_run.specs.MetalDescribe.{described, described_piece, AsksFor, Describes};
+ghost use Rattle.gpu_run.specs.declared.metal.describe.Wanted.TheVariants.{Piece};
 
+use crate::metal::command::Request;
 use gpu_device::metal::{MetalDevice, TextureDescriptor};
 use gpu_metal::AllocationCreateDesc;
 use gpu_values::{MemoryLocation, Result};
@@ -19,6 +21,25 @@ pub enum Wanted {
     AccelerationStructure(u64, MemoryLocation),
     /// A texture's piece: the device tells its size and alignment, and its storage mode where it lies.
     Texture(TextureDescriptor),
+}
+
+/// What a piece is asked for, its name aside.
+pub(crate) fn wanted_piece(request: &Request) -> Wanted
+    ensures { result ≡ Piece request.now.size request.now.alignment request.now.location }
+{
+    Wanted::Piece(request.size, request.alignment, request.location)
+}
+
+/// The description of a piece.
+pub(crate) fn describe_piece(request: &Request) -> AllocationCreateDesc<'_>
+    ensures { AsksFor (described_piece request.now) (string_bytes request.now.name) result }
+{
+    AllocationCreateDesc {
+        name: request.name.as_str(),
+        location: request.location,
+        size: request.size,
+        alignment: request.alignment,
+    }
 }
 
 /// The description of what is wanted, under this name. `Internal`, with the mode's value, for a texture whose storage mode is

@@ -29,7 +29,9 @@ pub enum Reply {
     Report(AllocatorReport),
     /// The sum of the sizes of the live blocks, in bytes.
     Capacity(u64),
-    /// The number stands for an allocation already.
+    /// No block ahead of the allocation's has a second place.
+    NoPlace,
+    /// The number, of a second place its own, stands for an allocation already.
     Busy,
     /// The number stands for nothing.
     Unbound,

@@ -1,13 +1,14 @@
 //! Sessions.
 
-ghost use Rattle.std.specs.Prelude.{◌≡◌, [], length, IfOk, IfErr, OnErr, Some};
+ghost use Rattle.std.specs.Prelude.{◌≡◌, ℕ, List, [], length, IfOk, IfErr, OnErr, Some};
 ghost use Rattle.gpu_values.specs.declared.error.AllocationError.TheVariants.{HostOutOfMemory};
 ghost use Rattle.gpu_metal.specs.Blocks.{HoldsJustLiveBlocks, residency_of, left_behind};
 ghost use Rattle.gpu_metal.specs.Residency.{ChangesHeld, releases_recorded};
 ghost use Rattle.gpu_pool.specs.Handles.{all_handles};
 ghost use Rattle.gpu_block_session.specs.CommandList.{IsRun};
 ghost use Rattle.gpu_run.specs.MetalCommand as commands;
-ghost use Rattle.gpu_run.specs.MetalCommand.{Alloc, Free, Under, command_of};
+ghost use Rattle.gpu_run.specs.MetalDescribe.{Described, AsksFor};
+ghost use Rattle.gpu_run.specs.MetalCommand.{Alloc, Move, Free, Under, command_of};
 ghost use Rattle.gpu_run.specs.MetalReply as replies;
 ghost use Rattle.gpu_run.specs.MetalReply.{reply_of, shown};
 ghost use Rattle.gpu_run.specs.MetalSession.{SessionInvariant};
@@ -15,11 +16,11 @@ ghost use Rattle.gpu_run.specs.MetalServed.{session_of, IsConstant, IsAnswered, 
 ghost use Rattle.gpu_pool.specs.Allocation.{piece_of};
 
 use crate::metal::command::Command;
-use crate::metal::describe::{Wanted, describe};
+use crate::metal::describe::{Wanted, describe, describe_piece, wanted_piece};
 use crate::metal::reply::{Allocated, Reply};
 use crate::{Machine, bind};
 use gpu_device::metal::MetalDevice;
-use gpu_metal::{Allocation, Allocator};
+use gpu_metal::{Allocation, AllocationCreateDesc, Allocator};
 use gpu_values::{AllocationError, Result};
 use log::Log;
 use std::alloc::Global;
@@ -140,15 +141,11 @@ impl<D: MetalDevice> Session<D> {
             self.new }
     {
         match command {
-            Command::Alloc {
-                key,
-                size,
-                alignment,
-                location,
-                name,
-            } => {
-                let wanted = Wanted::Piece(*size, *alignment, *location);
-                self.allocate(log, *key, wanted, name.as_str())
+            Command::Alloc { key, request } => {
+                self.allocate(log, *key, wanted_piece(request), request.name.as_str())
+            }
+            Command::Move { key, to, request } => {
+                self.propose_move(*key, *to, &describe_piece(request))
             }
             Command::Buffer {
                 key,
@@ -200,6 +197,35 @@ impl<D: MetalDevice> Session<D> {
             Ok(allocation) => {
                 let given = allocated(&allocation);
                 bind(&mut self.bound, key, allocation);
+                given
+            }
+        }
+    }
+
+    /// Room for the second number is made before the allocator is asked.
+    fn propose_move(&mut self, key: u64, to: u64, desc: &AllocationCreateDesc) -> Reply
+        ensures { (is : Described) (name : List ℕ) → AsksFor is name desc.now
+            → IsAnswered D.MetalDevice (Under key (Move to is name)) (reply_of result) self.old
+            self.new }
+    {
+        if !self.bound.contains_key(&key) {
+            return Reply::Unbound;
+        }
+        if self.bound.contains_key(&to) {
+            return Reply::Busy;
+        }
+        if self.bound.reserve(1).is_err() {
+            return Reply::Error(AllocationError::HostOutOfMemory);
+        }
+        let Some(from) = self.bound.get(&key) else {
+            unreachable!()
+        };
+        match self.allocator.propose_move(from, desc) {
+            Err(error) => Reply::Error(error),
+            Ok(None) => Reply::NoPlace,
+            Ok(Some(second)) => {
+                let given = allocated(&second);
+                bind(&mut self.bound, to, second);
                 given
             }
         }

@@ -1,7 +1,34 @@
 //! What a session is asked for.
 
+ghost use Rattle.gpu_run.specs.VulkanCommand.{Describes, wanted_of};
+
 use gpu_device::vulkan::{AllocationScheme, MemoryRequirements};
 use gpu_values::MemoryLocation;
+use gpu_vulkan::AllocationCreateDesc;
+
+/// What an allocation is asked for.
+#[derive(Debug, Drop)]
+pub struct Request {
+    pub requirements: MemoryRequirements,
+    pub location: MemoryLocation,
+    /// Whether it is a buffer or a linear image.
+    pub linear: bool,
+    pub scheme: AllocationScheme,
+    pub name: String,
+}
+
+/// The description of what is asked for.
+pub(crate) fn describe(request: &Request) -> AllocationCreateDesc<'_>
+    ensures { Describes result (wanted_of request.now) }
+{
+    AllocationCreateDesc {
+        name: request.name.as_str(),
+        requirements: request.requirements,
+        location: request.location,
+        linear: request.linear,
+        allocation_scheme: request.scheme,
+    }
+}
 
 /// A command to a session. `key` is the caller's own number of an allocation; sizes and places are bytes.
 #[derive(Debug, Drop)]
@@ -9,12 +36,13 @@ pub enum Command {
     /// Asks for an allocation, and binds the number to it.
     Alloc {
         key: u64,
-        requirements: MemoryRequirements,
-        location: MemoryLocation,
-        /// Whether it is a buffer or a linear image.
-        linear: bool,
-        scheme: AllocationScheme,
-        name: String,
+        request: Request,
+    },
+    /// Asks for a second place of the allocation, by its request again, and binds the number `to` to it.
+    Move {
+        key: u64,
+        to: u64,
+        request: Request,
     },
     /// Binds the number to a null allocation.
     Null {

@@ -18,8 +18,8 @@ pub struct Allocated {
     pub mapped: bool,
 }
 
-/// The reply to a command. Any but `Done` of `Free`, `Write` and `SetBudget`, `Capacity`, `Busy`, `Unbound`, `Unmapped` and `OutOfRange` may
-/// in its place be `Error(HostOutOfMemory)`; then the command changed nothing but what the device counts of questions that it
+/// The reply to a command. Any but `Done` of `Free`, `Write` and `SetBudget`, `Capacity`, `Busy`, `Unbound`, `NoPlace`, `Unmapped` and
+/// `OutOfRange` may in its place be `Error(HostOutOfMemory)`; then the command changed nothing but what the device counts of questions that it
 /// was asked before.
 #[derive(Drop)]
 pub enum Reply {
@@ -33,10 +33,12 @@ pub enum Reply {
     Leaks(Vec<String>),
     /// The sum of the sizes of the live blocks, in bytes.
     Capacity(u64),
-    /// The number stands for an allocation already.
+    /// The number, of a second place its own, stands for an allocation already.
     Busy,
     /// The number stands for nothing.
     Unbound,
+    /// No block ahead of the allocation's has a second place.
+    NoPlace,
     /// The allocation is null, or the host can't see its memory.
     Unmapped,
     /// The range ends past the allocation.

@@ -7,10 +7,11 @@ ghost use Rattle.gpu_vulkan.specs.BlockAnswer.{frees_recorded};
 ghost use Rattle.gpu_vulkan.specs.Blocks.{HoldsJustLiveBlocks};
 ghost use Rattle.gpu_run.specs.VulkanCommand as commands;
 ghost use Rattle.gpu_run.specs.VulkanReply as replies;
-ghost use Rattle.gpu_run.specs.VulkanCommand.{Wanted, Describes, Alloc, Null, Free, Rename, Write, Read, Under};
+ghost use Rattle.gpu_run.specs.VulkanCommand.{Wanted, Describes, Alloc, Move, Null, Free, Rename, Write, Read, Under};
 ghost use Rattle.gpu_run.specs.VulkanSession.{IsOwn, SessionInvariant, overwritten};
 ghost use Rattle.gpu_run.specs.VulkanServed.{session_of, command_of, reply_of, shown_allocation, IsServed, IsRun, ServesEach};
 
+use crate::vulkan::command::describe;
 use crate::vulkan::{Allocated, Command, Reply};
 use crate::{Machine, bind};
 use gpu_device::vulkan::VulkanDevice;
@@ -141,23 +142,8 @@ impl<D: VulkanDevice> Session<D> {
             self.new }
     {
         match command {
-            Command::Alloc {
-                key,
-                requirements,
-                location,
-                linear,
-                scheme,
-                name,
-            } => {
-                let desc = AllocationCreateDesc {
-                    name: name.as_str(),
-                    requirements: *requirements,
-                    location: *location,
-                    linear: *linear,
-                    allocation_scheme: *scheme,
-                };
-                self.allocate(log, *key, &desc)
-            }
+            Command::Alloc { key, request } => self.allocate(log, *key, &describe(request)),
+            Command::Move { key, to, request } => self.propose_move(*key, *to, &describe(request)),
             Command::Null { key } => self.bind_null(*key),
             Command::Free { key } => self.free(log, *key),
             Command::Rename { key, name } => self.rename(*key, name.as_str()),
@@ -189,6 +175,34 @@ impl<D: VulkanDevice> Session<D> {
             Ok(allocation) => {
                 let given = allocated(&allocation);
                 bind(&mut self.bound, key, allocation);
+                given
+            }
+        }
+    }
+
+    /// Room for the second number is made before the allocator is asked.
+    fn propose_move(&mut self, key: u64, to: u64, desc: &AllocationCreateDesc) -> Reply
+        ensures { (w : Wanted) → Describes desc.now w
+            → IsServed D.VulkanDevice (Under key (Move to w)) (reply_of result) self.old self.new }
+    {
+        if !self.bound.contains_key(&key) {
+            return Reply::Unbound;
+        }
+        if self.bound.contains_key(&to) {
+            return Reply::Busy;
+        }
+        if self.bound.reserve(1).is_err() {
+            return Reply::Error(AllocationError::HostOutOfMemory);
+        }
+        let Some(from) = self.bound.get(&key) else {
+            unreachable!()
+        };
+        match self.allocator.propose_move(from, desc) {
+            Err(error) => Reply::Error(error),
+            Ok(None) => Reply::NoPlace,
+            Ok(Some(second)) => {
+                let given = allocated(&second);
+                bind(&mut self.bound, to, second);
                 given
             }
         }

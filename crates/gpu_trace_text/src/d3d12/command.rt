@@ -1,47 +1,26 @@
 //! What a command of a DirectX 12 trace says.
 
 ghost use Rattle.std.specs.Prelude.{◌≡◌, ◌∷◌, IfOk, codes};
-ghost use Rattle.std.specs.Fmt.{decimal};
 ghost use Rattle.gpu_block_session.specs.Words.{texts};
-ghost use Rattle.gpu_trace_text.specs.D3D12Command.{Says};
+ghost use Rattle.gpu_trace_text.specs.D3D12Command.{SaysRequest, Says};
 
 use crate::d3d12::resource::{category_of, wanted_of};
 use crate::device::ask::{budget_of, location_of};
 use gpu_block_session::words::{name_of, number};
-use gpu_run::d3d12::Command;
+use gpu_run::d3d12::{Command, Request};
 use std::alloc::{AllocError, Global};
 
-fn alloc(alloc: Global, arguments: &[&str]) -> Result<Option<Command>, AllocError>
-    ensures { IfOk result (λ found. Says (codes "alloc" ∷ texts arguments.now) found) }
+/// The request that these words say, or `None` where they say none. Only host memory can be refused.
+fn request_of(alloc: Global, arguments: &[&str]) -> Result<Option<Request>, AllocError>
+    ensures { IfOk result (SaysRequest (texts arguments.now)) }
 {
-    let [key, size, alignment, rest @ ..] = arguments else {
-        return Ok(None);
-    };
-    let Some(key) = number(key) else {
+    let [size, alignment, location, category, name] = arguments else {
         return Ok(None);
     };
     let Some(size) = number(size) else {
         return Ok(None);
     };
     let Some(alignment) = number(alignment) else {
-        return Ok(None);
-    };
-    piece(alloc, key, size, alignment, rest)
-}
-
-/// The second half of a request for a piece.
-fn piece(
-    alloc: Global,
-    key: u64,
-    size: u64,
-    alignment: u64,
-    arguments: &[&str],
-) -> Result<Option<Command>, AllocError>
-    ensures { IfOk result (λ found. Says
-        (codes "alloc" ∷ decimal key ∷ decimal size ∷ decimal alignment ∷ texts arguments.now)
-        found) }
-{
-    let [location, category, name] = arguments else {
         return Ok(None);
     };
     let Some(location) = location_of(location) else {
@@ -53,14 +32,46 @@ fn piece(
     let Some(name) = name_of(alloc, name)? else {
         return Ok(None);
     };
-    Ok(Some(Command::Alloc {
-        key,
+    Ok(Some(Request {
         size,
         alignment,
         location,
         category,
         name,
     }))
+}
+
+fn alloc(alloc: Global, arguments: &[&str]) -> Result<Option<Command>, AllocError>
+    ensures { IfOk result (λ found. Says (codes "alloc" ∷ texts arguments.now) found) }
+{
+    let [key, rest @ ..] = arguments else {
+        return Ok(None);
+    };
+    let Some(key) = number(key) else {
+        return Ok(None);
+    };
+    let Some(request) = request_of(alloc, rest)? else {
+        return Ok(None);
+    };
+    Ok(Some(Command::Alloc { key, request }))
+}
+
+fn second_place(alloc: Global, arguments: &[&str]) -> Result<Option<Command>, AllocError>
+    ensures { IfOk result (λ found. Says (codes "move" ∷ texts arguments.now) found) }
+{
+    let [key, to, rest @ ..] = arguments else {
+        return Ok(None);
+    };
+    let Some(key) = number(key) else {
+        return Ok(None);
+    };
+    let Some(to) = number(to) else {
+        return Ok(None);
+    };
+    let Some(request) = request_of(alloc, rest)? else {
+        return Ok(None);
+    };
+    Ok(Some(Command::Move { key, to, request }))
 }
 
 fn free(arguments: &[&str]) -> Option<Command>
@@ -174,6 +185,7 @@ pub(crate) fn said_command(
 {
     match verb {
         "alloc" => alloc(global, arguments),
+        "move" => second_place(global, arguments),
         "free" => Ok(free(arguments)),
         "rename" => rename(global, arguments),
         "create" => create(global, arguments),

@@ -6,12 +6,12 @@ ghost use Rattle.gpu_values.specs.declared.memory_location.MemoryLocation.{Memor
 ghost use Rattle.gpu_device.specs.declared.vulkan.types.AllocationScheme.{AllocationScheme};
 ghost use Rattle.gpu_trace_text.specs.Hex.{hex, AreBytes};
 ghost use Rattle.gpu_block_session.specs.Words.{texts};
-ghost use Rattle.gpu_trace_text.specs.Ask.{location_word, linear_word, scheme_word, budget_word, FitsScheme, FitsBudget, IsLength, IsPayload, Says};
+ghost use Rattle.gpu_trace_text.specs.Ask.{location_word, linear_word, scheme_word, budget_word, FitsScheme, FitsBudget, IsLength, IsPayload, SaysRequest, Says};
 
 use crate::hex;
 use gpu_block_session::words::{name_of, number, small_number};
 use gpu_device::vulkan::{AllocationScheme, Buffer, Image, MemoryRequirements};
-use gpu_run::vulkan::Command;
+use gpu_run::vulkan::{Command, Request};
 use gpu_values::MemoryLocation;
 use std::alloc::{AllocError, Global};
 
@@ -73,16 +73,15 @@ fn requirements_of(size: &str, alignment: &str, bits: &str) -> Option<MemoryRequ
     })
 }
 
-/// The second half of a request, behind its number and what it asks of the memory.
-fn request_of(
+/// The second half of a request, behind what it asks of the memory.
+fn placed(
     alloc: Global,
-    key: u64,
     requirements: MemoryRequirements,
     arguments: &[&str],
-) -> Result<Option<Command>, AllocError>
-    ensures { IfOk result (λ found. Says
-        (codes "alloc" ∷ decimal key ∷ decimal requirements.size ∷ decimal requirements.alignment
-        ∷ decimal requirements.memory_type_bits ∷ texts arguments.now) found) }
+) -> Result<Option<Request>, AllocError>
+    ensures { IfOk result (SaysRequest
+        (decimal requirements.size ∷ decimal requirements.alignment
+        ∷ decimal requirements.memory_type_bits ∷ texts arguments.now)) }
 {
     let [location, linear, scheme, name] = arguments else {
         return Ok(None);
@@ -99,8 +98,7 @@ fn request_of(
     let Some(name) = name_of(alloc, name)? else {
         return Ok(None);
     };
-    Ok(Some(Command::Alloc {
-        key,
+    Ok(Some(Request {
         requirements,
         location,
         linear,
@@ -109,19 +107,50 @@ fn request_of(
     }))
 }
 
-fn alloc(alloc: Global, arguments: &[&str]) -> Result<Option<Command>, AllocError>
-    ensures { IfOk result (λ found. Says (codes "alloc" ∷ texts arguments.now) found) }
+/// The request that these words say, or `None` where they say none. Only host memory can be refused.
+fn request_of(alloc: Global, arguments: &[&str]) -> Result<Option<Request>, AllocError>
+    ensures { IfOk result (SaysRequest (texts arguments.now)) }
 {
-    let [key, size, alignment, bits, rest @ ..] = arguments else {
-        return Ok(None);
-    };
-    let Some(key) = number(key) else {
+    let [size, alignment, bits, rest @ ..] = arguments else {
         return Ok(None);
     };
     let Some(requirements) = requirements_of(size, alignment, bits) else {
         return Ok(None);
     };
-    request_of(alloc, key, requirements, rest)
+    placed(alloc, requirements, rest)
+}
+
+fn alloc(alloc: Global, arguments: &[&str]) -> Result<Option<Command>, AllocError>
+    ensures { IfOk result (λ found. Says (codes "alloc" ∷ texts arguments.now) found) }
+{
+    let [key, rest @ ..] = arguments else {
+        return Ok(None);
+    };
+    let Some(key) = number(key) else {
+        return Ok(None);
+    };
+    let Some(request) = request_of(alloc, rest)? else {
+        return Ok(None);
+    };
+    Ok(Some(Command::Alloc { key, request }))
+}
+
+fn second_place(alloc: Global, arguments: &[&str]) -> Result<Option<Command>, AllocError>
+    ensures { IfOk result (λ found. Says (codes "move" ∷ texts arguments.now) found) }
+{
+    let [key, to, rest @ ..] = arguments else {
+        return Ok(None);
+    };
+    let Some(key) = number(key) else {
+        return Ok(None);
+    };
+    let Some(to) = number(to) else {
+        return Ok(None);
+    };
+    let Some(request) = request_of(alloc, rest)? else {
+        return Ok(None);
+    };
+    Ok(Some(Command::Move { key, to, request }))
 }
 
 fn null(arguments: &[&str]) -> Option<Command>
@@ -281,6 +310,7 @@ pub fn command_of(
 {
     match verb {
         "alloc" => alloc(global, arguments),
+        "move" => second_place(global, arguments),
         "null" => Ok(null(arguments)),
         "free" => Ok(free(arguments)),
         "rename" => rename(global, arguments),

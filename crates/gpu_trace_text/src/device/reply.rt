@@ -163,6 +163,7 @@ fn write_told<W: fmt::Write>(told: &Told, f: &mut fmt::Formatter<W>) -> fmt::Res
         Told::Capacity(bytes) => write!(f, "{bytes}"),
         Told::Busy => write!(f, "busy"),
         Told::Unbound => write!(f, "unbound"),
+        Told::NoPlace => write!(f, "none"),
         Told::Unmapped => write!(f, "none"),
         Told::OutOfRange => write!(f, "range"),
         Told::Error(error) => {

@@ -6,12 +6,12 @@ ghost use Rattle.gpu_values.specs.declared.memory_location.MemoryLocation.{Memor
 ghost use Rattle.gpu_device.specs.declared.metal.types.StorageMode.{StorageMode};
 ghost use Rattle.gpu_trace_text.specs.Ask.{location_word};
 ghost use Rattle.gpu_block_session.specs.Words.{texts};
-ghost use Rattle.gpu_trace_text.specs.MetalCommand.{mode_word, FitsMode, Says};
+ghost use Rattle.gpu_trace_text.specs.MetalCommand.{mode_word, FitsMode, SaysRequest, Says};
 
 use crate::device::ask::{budget_of, location_of};
 use gpu_block_session::words::{name_of, number, small_number};
 use gpu_device::metal::{StorageMode, TextureDescriptor};
-use gpu_run::metal::Command;
+use gpu_run::metal::{Command, Request};
 use gpu_values::MemoryLocation;
 use std::alloc::{AllocError, Global};
 
@@ -31,13 +31,11 @@ fn mode_of(word: &str) -> Option<StorageMode>
     }
 }
 
-fn alloc(alloc: Global, arguments: &[&str]) -> Result<Option<Command>, AllocError>
-    ensures { IfOk result (λ found. Says (codes "alloc" ∷ texts arguments.now) found) }
+/// The request that these words say, or `None` where they say none. Only host memory can be refused.
+fn request_of(alloc: Global, arguments: &[&str]) -> Result<Option<Request>, AllocError>
+    ensures { IfOk result (SaysRequest (texts arguments.now)) }
 {
-    let [key, size, alignment, rest @ ..] = arguments else {
-        return Ok(None);
-    };
-    let Some(key) = number(key) else {
+    let [size, alignment, location, name] = arguments else {
         return Ok(None);
     };
     let Some(size) = number(size) else {
@@ -46,37 +44,51 @@ fn alloc(alloc: Global, arguments: &[&str]) -> Result<Option<Command>, AllocErro
     let Some(alignment) = number(alignment) else {
         return Ok(None);
     };
-    piece(alloc, key, size, alignment, rest)
-}
-
-/// The second half of a request for a piece.
-fn piece(
-    alloc: Global,
-    key: u64,
-    size: u64,
-    alignment: u64,
-    arguments: &[&str],
-) -> Result<Option<Command>, AllocError>
-    ensures { IfOk result (λ found. Says
-        (codes "alloc" ∷ decimal key ∷ decimal size ∷ decimal alignment ∷ texts arguments.now)
-        found) }
-{
-    let [location, name] = arguments else {
-        return Ok(None);
-    };
     let Some(location) = location_of(location) else {
         return Ok(None);
     };
     let Some(name) = name_of(alloc, name)? else {
         return Ok(None);
     };
-    Ok(Some(Command::Alloc {
-        key,
+    Ok(Some(Request {
         size,
         alignment,
         location,
         name,
     }))
+}
+
+fn alloc(alloc: Global, arguments: &[&str]) -> Result<Option<Command>, AllocError>
+    ensures { IfOk result (λ found. Says (codes "alloc" ∷ texts arguments.now) found) }
+{
+    let [key, rest @ ..] = arguments else {
+        return Ok(None);
+    };
+    let Some(key) = number(key) else {
+        return Ok(None);
+    };
+    let Some(request) = request_of(alloc, rest)? else {
+        return Ok(None);
+    };
+    Ok(Some(Command::Alloc { key, request }))
+}
+
+fn second_place(alloc: Global, arguments: &[&str]) -> Result<Option<Command>, AllocError>
+    ensures { IfOk result (λ found. Says (codes "move" ∷ texts arguments.now) found) }
+{
+    let [key, to, rest @ ..] = arguments else {
+        return Ok(None);
+    };
+    let Some(key) = number(key) else {
+        return Ok(None);
+    };
+    let Some(to) = number(to) else {
+        return Ok(None);
+    };
+    let Some(request) = request_of(alloc, rest)? else {
+        return Ok(None);
+    };
+    Ok(Some(Command::Move { key, to, request }))
 }
 
 fn buffer(alloc: Global, arguments: &[&str]) -> Result<Option<Command>, AllocError>
@@ -240,6 +252,7 @@ pub(crate) fn said_command(
 {
     match verb {
         "alloc" => alloc(global, arguments),
+        "move" => second_place(global, arguments),
         "buffer" => buffer(global, arguments),
         "structure" => structure(global, arguments),
         "texture" => texture(global, arguments),

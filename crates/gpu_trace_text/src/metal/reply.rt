@@ -144,6 +144,7 @@ fn write_told<W: fmt::Write>(told: &Told, f: &mut fmt::Formatter<W>) -> fmt::Res
         Told::Heaps(heaps) => write_heaps(heaps, f),
         Told::Report(report) => write_report(report, f),
         Told::Capacity(bytes) => write!(f, "{bytes}"),
+        Told::NoPlace => write!(f, "none"),
         Told::Busy => write!(f, "busy"),
         Told::Unbound => write!(f, "unbound"),
         Told::Error(error) => {
