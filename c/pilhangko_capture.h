@@ -9,6 +9,7 @@
 
 #define TRACE_LIMIT 1048576 /* bytes of the longest trace that gpu_trace reads */
 #define LINE_ROOM 320       /* more than the longest line */
+#define REQUEST_ROOM 240    /* more than the words of the longest request */
 #define NAME_ROOM 64        /* of a name in a trace */
 #define END_ROOM 160        /* for `new`, `destroy` and the remark why a capture ends early */
 #define CAPTURED_TYPES 32   /* memory types of a device at most */

@@ -199,7 +199,6 @@ static pilhangko_status free_allocation(struct binding *binding, const pilhangko
 static pilhangko_status propose_alone(struct binding *b, const pilhangko_d3d12_allocation *from, const pilhangko_d3d12_request *request,
     bool *moves, pilhangko_d3d12_allocation *to) {
     const pilhangko_heaps_request asks = asks_for(request);
-    const struct asked nothing = {false, false, S_OK};
     const struct live *it = find(b, from);
     struct live first;
     pilhangko_heaps_piece place;
@@ -208,8 +207,9 @@ static pilhangko_status propose_alone(struct binding *b, const pilhangko_d3d12_a
     first = *it; /* the record may lie elsewhere behind has_spare */
     if (!has_spare(&b->live)) return PILHANGKO_HOST_OUT_OF_MEMORY;
     status = pilhangko_heaps_propose_move(&b->heaps, &first.piece, &asks, request->name, moves, &place);
-    if (status != PILHANGKO_OK || !*moves) return status;
-    if (begins_lines(b, status)) capture_allocation(&b->capture, b->last_serial + 1, &asks, request->name, &nothing);
+    if (status != PILHANGKO_OK) return status;
+    if (begins_lines(b, status)) capture_move(&b->capture, first.serial, b->last_serial + 1, &asks, request->name);
+    if (!*moves) return PILHANGKO_OK;
     keep_piece(b, &place, to)->word = first.word;
     return PILHANGKO_OK;
 }

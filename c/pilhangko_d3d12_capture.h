@@ -36,13 +36,27 @@ static inline void capture_question(struct capture *c, const struct asked *asked
     c->questions += asked->has_asked;
 }
 
+/* A request in a trace's words. */
+static inline const char *trace_request(const pilhangko_heaps_request *r, const char *name, char *words, size_t room) {
+    char word[NAME_ROOM + 1];
+    snprintf(words, room, "%" PRIu64 " %" PRIu64 " %s %s %s", r->size, r->alignment, trace_location(r->location), trace_category(r->category),
+        trace_name(name, word));
+    return words;
+}
+
 /* The call `allocate`. An allocation is called by its serial number; one that was refused by the next one's. */
 static inline void capture_allocation(
     struct capture *c, uint64_t number, const pilhangko_heaps_request *r, const char *name, const struct asked *asked) {
-    char line[LINE_ROOM], word[NAME_ROOM + 1];
-    snprintf(line, sizeof line, "alloc %" PRIu64 " %" PRIu64 " %" PRIu64 " %s %s %s\n", number, r->size, r->alignment,
-        trace_location(r->location), trace_category(r->category), trace_name(name, word));
+    char line[LINE_ROOM], words[REQUEST_ROOM];
+    snprintf(line, sizeof line, "alloc %" PRIu64 " %s\n", number, trace_request(r, name, words, sizeof words));
     capture_question(c, asked, line);
+}
+
+/* The call `propose_move`, whether there was a second place or none, which is called by the serial number `to`. */
+static inline void capture_move(struct capture *c, uint64_t from, uint64_t to, const pilhangko_heaps_request *r, const char *name) {
+    char line[LINE_ROOM], words[REQUEST_ROOM];
+    snprintf(line, sizeof line, "move %" PRIu64 " %" PRIu64 " %s\n", from, to, trace_request(r, name, words, sizeof words));
+    capture_lines(c, "", line);
 }
 
 /* A committed resource, as a buffer that takes as many bytes in whole units. */

@@ -139,20 +139,36 @@ struct asked {
     bool has_asked, is_refused;
 };
 
+/* A request in a trace's words. */
+static const char *trace_request(const pilhangko_metal_request *request, char *words, size_t room) {
+    char word[NAME_ROOM + 1];
+    snprintf(words, room, "%" PRIu64 " %" PRIu64 " %s %s", request->size, request->alignment, trace_location(request->location),
+        trace_name(request->name, word));
+    return words;
+}
+
 /* The call `allocate`: what it asked for, and what the device refused. Where host memory was lacking, nothing has changed, and in a replay
  * nothing is lacking; an invalid request may have words that no trace has. An allocation is called by its serial number; one that was
  * refused by the next one's. */
 static void capture_allocation(
     struct binding *b, const pilhangko_metal_request *request, pilhangko_status status, const struct asked *asked) {
-    char line[LINE_ROOM], refusal[LINE_ROOM] = "", word[NAME_ROOM + 1];
+    char line[LINE_ROOM], refusal[LINE_ROOM] = "", words[REQUEST_ROOM];
     if (!is_captured(b) || status == PILHANGKO_HOST_OUT_OF_MEMORY || status == PILHANGKO_INVALID) return;
     capture_new_budgets(b);
     if (!is_captured(b)) return;
-    snprintf(line, sizeof line, "alloc %" PRIu64 " %" PRIu64 " %" PRIu64 " %s %s\n", b->last_serial + 1, request->size, request->alignment,
-        trace_location(request->location), trace_name(request->name, word));
+    snprintf(line, sizeof line, "alloc %" PRIu64 " %s\n", b->last_serial + 1, trace_request(request, words, sizeof words));
     if (asked->is_refused) trace_refusal(refusal, sizeof refusal, b->capture.questions + 1, true, 0);
     capture_lines(&b->capture, refusal, line);
     b->capture.questions += asked->has_asked;
+}
+
+/* The call `propose_move` of the allocation with this serial number, whether there was a second place or none. */
+static void capture_move(struct binding *b, uint64_t from, const pilhangko_metal_request *request) {
+    char line[LINE_ROOM], words[REQUEST_ROOM];
+    if (is_captured(b)) capture_new_budgets(b);
+    if (!is_captured(b)) return;
+    snprintf(line, sizeof line, "move %" PRIu64 " %" PRIu64 " %s\n", from, b->last_serial + 1, trace_request(request, words, sizeof words));
+    capture_lines(&b->capture, "", line);
 }
 
 /* Writes the capture with a last line, and forgets it. */
@@ -269,7 +285,6 @@ static pilhangko_status free_allocation(struct binding *binding, const pilhangko
 static pilhangko_status propose_alone(struct binding *b, const pilhangko_metal_allocation *from, const pilhangko_metal_request *request,
     bool *moves, pilhangko_metal_allocation *to) {
     const pilhangko_metal_heaps_request asks = asks_for(request);
-    const struct asked nothing = {false, false};
     const struct live *it = find(b, from);
     struct live first;
     pilhangko_heaps_piece place;
@@ -278,8 +293,9 @@ static pilhangko_status propose_alone(struct binding *b, const pilhangko_metal_a
     first = *it; /* the record may lie elsewhere behind has_spare */
     if (!has_spare(&b->live)) return PILHANGKO_HOST_OUT_OF_MEMORY;
     status = pilhangko_metal_heaps_propose_move(&b->heaps, &first.piece, &asks, request->name, moves, &place);
-    if (status != PILHANGKO_OK || !*moves) return status;
-    capture_allocation(b, request, status, &nothing);
+    if (status != PILHANGKO_OK) return status;
+    capture_move(b, first.serial, request);
+    if (!*moves) return PILHANGKO_OK;
     keep_allocation(b, &place, to);
     ((struct live *)record_of(&b->live, to->index))->word = first.word;
     return PILHANGKO_OK;

@@ -119,22 +119,37 @@ static void capture_new_budgets(struct binding *b) {
     }
 }
 
+/* A request in a trace's words. */
+static const char *trace_request(const pilhangko_allocator_request *request, const char *name, char *words, size_t room) {
+    char scheme[32], word[NAME_ROOM + 1];
+    trace_scheme(request, scheme, sizeof scheme);
+    snprintf(words, room, "%" PRIu64 " %" PRIu64 " %" PRIu32 " %s %s %s %s", request->size, request->alignment, request->memory_type_bits,
+        trace_location(request->location), request->kind == PILHANGKO_KIND_LINEAR ? "linear" : "nonlinear", scheme, trace_name(name, word));
+    return words;
+}
+
 /* The call `allocate`: what it asked for, and what the driver refused. Where host memory was lacking, nothing has changed, and in a replay
  * nothing is lacking; an invalid request may have words that no trace has. An allocation is called by its serial number; one that was
  * refused by the next one's. */
 static void capture_allocation(
     struct binding *b, const pilhangko_allocator_request *request, const char *name, pilhangko_status status, const struct asked *asked) {
-    char lines[LINE_ROOM], refusals[LINE_ROOM], scheme[32], word[NAME_ROOM + 1];
+    char lines[LINE_ROOM], refusals[LINE_ROOM], words[REQUEST_ROOM];
     if (!is_captured(b) || status == PILHANGKO_HOST_OUT_OF_MEMORY || status == PILHANGKO_INVALID) return;
     capture_new_budgets(b);
     if (!is_captured(b)) return;
-    trace_scheme(request, scheme, sizeof scheme);
     trace_refusals(&b->capture, asked, refusals, sizeof refusals);
-    snprintf(lines, sizeof lines, "alloc %" PRIu64 " %" PRIu64 " %" PRIu64 " %" PRIu32 " %s %s %s %s\n", b->last_serial + 1, request->size,
-        request->alignment, request->memory_type_bits, trace_location(request->location),
-        request->kind == PILHANGKO_KIND_LINEAR ? "linear" : "nonlinear", scheme, trace_name(name, word));
+    snprintf(lines, sizeof lines, "alloc %" PRIu64 " %s\n", b->last_serial + 1, trace_request(request, name, words, sizeof words));
     capture_lines(&b->capture, refusals, lines);
     b->capture.questions += asked->questions;
+}
+
+/* The call `propose_move` of the allocation with this serial number, whether there was a second place or none. */
+static void capture_move(struct binding *b, uint64_t from, const pilhangko_allocator_request *request, const char *name) {
+    char line[LINE_ROOM], words[REQUEST_ROOM];
+    if (is_captured(b)) capture_new_budgets(b);
+    if (!is_captured(b)) return;
+    snprintf(line, sizeof line, "move %" PRIu64 " %" PRIu64 " %s\n", from, b->last_serial + 1, trace_request(request, name, words, sizeof words));
+    capture_lines(&b->capture, "", line);
 }
 
 /* Writes the capture with a last line, and forgets it. */
@@ -319,14 +334,16 @@ static pilhangko_status free_allocation(struct binding *binding, const pilhangko
     return status;
 }
 
-/* A second place, as an allocation that replays alike: of its memory type alone, and for any location. */
-static void capture_second_place(
-    struct binding *b, const pilhangko_allocator_request *request, const char *name, const pilhangko_allocator_piece *to) {
-    const struct asked nothing = {0, 0, {{0, false, 0}, {0, false, 0}}, VK_SUCCESS};
-    pilhangko_allocator_request alike = *request;
-    alike.memory_type_bits = (uint32_t)1 << to->memory_type;
-    alike.location = PILHANGKO_LOCATION_UNKNOWN;
-    capture_allocation(b, &alike, name, PILHANGKO_OK, &nothing);
+pilhangko_status PILHANGKO_CALL pilhangko_vulkan_free_counted(
+    pilhangko_vulkan *vulkan, const pilhangko_vulkan_allocation *allocation, VkDeviceSize *bytes) {
+    struct binding *b = enter(binding_of(vulkan));
+    uint64_t before = 0, behind = 0;
+    pilhangko_status status = pilhangko_allocator_capacity(&b->allocator, &before);
+    if (status == PILHANGKO_OK) status = free_alone(b, allocation);
+    if (status == PILHANGKO_OK) status = pilhangko_allocator_capacity(&b->allocator, &behind);
+    leave(b);
+    if (status == PILHANGKO_OK) *bytes = before - behind;
+    return status;
 }
 
 static pilhangko_status propose_alone(struct binding *b, const pilhangko_vulkan_allocation *from, const pilhangko_vulkan_request *request,
@@ -342,8 +359,9 @@ static pilhangko_status propose_alone(struct binding *b, const pilhangko_vulkan_
     if (status != PILHANGKO_OK) return status;
     if (!has_spare(&b->live)) return PILHANGKO_HOST_OUT_OF_MEMORY;
     status = pilhangko_allocator_propose_move(&b->allocator, &first.piece, &asks, request->name, moves, &place);
-    if (status != PILHANGKO_OK || !*moves) return status;
-    capture_second_place(b, &asks, request->name, &place);
+    if (status != PILHANGKO_OK) return status;
+    capture_move(b, first.serial, &asks, request->name);
+    if (!*moves) return PILHANGKO_OK;
     keep_allocation(b, &place, false, to);
     ((struct live *)record_of(&b->live, to->index))->user_data = first.user_data;
     return PILHANGKO_OK;

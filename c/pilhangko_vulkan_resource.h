@@ -1,4 +1,5 @@
-/* What the files of Pilhangko's Vulkan binding share: results, and the driver's calls for a buffer or an image. Not for its users. */
+/* What the files of Pilhangko's Vulkan binding share: results, a free that counts, and the driver's calls for a buffer or an image. Not for its
+ * users. */
 #ifndef PILHANGKO_VULKAN_RESOURCE_H
 #define PILHANGKO_VULKAN_RESOURCE_H
 
@@ -15,6 +16,16 @@ static inline pilhangko_vulkan_result result_of(pilhangko_status status, VkResul
 static inline pilhangko_vulkan_result undriven(pilhangko_status status) {
     return result_of(status, VK_SUCCESS);
 }
+
+#ifdef __cplusplus
+extern "C" {
+#endif
+/* As pilhangko_vulkan_free of a handle that isn't empty, and says how many bytes of the driver's went back with it: those of the block, or 0. */
+pilhangko_status PILHANGKO_CALL pilhangko_vulkan_free_counted(
+    pilhangko_vulkan *vulkan, const pilhangko_vulkan_allocation *allocation, VkDeviceSize *bytes);
+#ifdef __cplusplus
+}
+#endif
 
 /* A buffer or an image: the other one is null. */
 struct resource {

@@ -109,9 +109,14 @@ static void fill(const struct resource *r) {
     begin_reads(r);
 }
 
+static void destroy(const struct resource *r) {
+    if (r->buffer) vkDestroyBuffer(gpu.device, r->buffer, NULL);
+    else vkDestroyImage(gpu.device, r->image, NULL);
+}
+
 static void drop(const struct resource *r) {
-    if (r->buffer) check(pilhangko_vulkan_destroy_buffer(&vulkan, r->buffer, &r->allocation));
-    else check(pilhangko_vulkan_destroy_image(&vulkan, r->image, &r->allocation));
+    destroy(r);
+    check(pilhangko_vulkan_free(&vulkan, &r->allocation));
 }
 
 static bool is_made(const struct resource *r) {
@@ -155,30 +160,28 @@ static struct resource copied_to(const struct resource *from, const pilhangko_vu
     return to;
 }
 
-/* One frame: what may move, the second places, the copies; and once the GPU has made these, what was moved is dropped at its first place. How
- * many bytes were copied. */
-static VkDeviceSize move_for_a_frame(void) {
+/* One frame: what may move, the second places, the copies; and once the GPU has made these, what was moved is destroyed at its first place, which
+ * finishes the move. */
+static void move_for_a_frame(pilhangko_vulkan_defragmentation *it) {
     static pilhangko_vulkan_movable movables[RESOURCES];
     static pilhangko_vulkan_move moves[RESOURCES];
     static struct resource *owners[RESOURCES], copies[RESOURCES];
     size_t count = 0, proposed;
-    VkDeviceSize bytes = 0;
     for (unsigned i = 0; i < RESOURCES; i++) {
         if (!is_made(&resources[i])) continue;
         owners[count] = &resources[i];
         movables[count].allocation = resources[i].allocation;
         movables[count++].request = request_of(&resources[i]);
     }
-    check(pilhangko_vulkan_propose_moves(&vulkan, movables, count, FRAME_BYTES, moves, RESOURCES, &proposed));
+    check(pilhangko_vulkan_defragmentation_propose(&vulkan, it, movables, count, FRAME_BYTES, moves, RESOURCES, &proposed));
     begin_commands();
     for (size_t i = 0; i < proposed; i++) copies[i] = copied_to(owners[moves[i].index], &moves[i].to);
     submit_and_wait();
     for (size_t i = 0; i < proposed; i++) {
-        drop(owners[moves[i].index]);
+        destroy(owners[moves[i].index]);
         *owners[moves[i].index] = copies[i];
-        bytes += moves[i].to.size;
+        check(pilhangko_vulkan_defragmentation_finish(&vulkan, it, &moves[i].to));
     }
-    return bytes;
 }
 
 /* ---- reading back ---- */
@@ -212,12 +215,12 @@ static unsigned long long megabytes_held(void) {
     return (unsigned long long)(bytes >> 20);
 }
 
-/* Moves until no move is proposed; says how often, and how many bytes. */
+/* Moves until no move is proposed; says what came of it. */
 static void move_all(void) {
-    VkDeviceSize copied = 0, bytes;
-    unsigned frames = 0;
-    while ((bytes = move_for_a_frame()) > 0) copied += bytes, frames++;
-    printf("%llu MB copied in %u frames\n", (unsigned long long)(copied >> 20), frames);
+    pilhangko_vulkan_defragmentation it = {0};
+    while (!it.done) move_for_a_frame(&it);
+    printf("%llu moves of %llu MB, %llu blocks of %llu MB given back\n", (unsigned long long)it.moves_finished,
+        (unsigned long long)(it.bytes_moved >> 20), (unsigned long long)it.blocks_given_back, (unsigned long long)(it.bytes_given_back >> 20));
 }
 
 int main(void) {

@@ -228,11 +228,55 @@ typedef struct pilhangko_vulkan_move {
 
 /* Proposes the moves of a frame: goes over the table, allocations in the lowest slot first, so that low blocks empty, and proposes moves that
  * sum up to so many bytes at most, and that moves has room for. *proposed says how many; they are as those of pilhangko_vulkan_propose_move,
- * and each ends by a free. An allocation with an open move isn't put into the table again. Where a proposal fails, those before it are
- * abandoned, and what moves holds doesn't count. (c/pilhangko_vulkan_moves.c)
+ * and each ends by a free. An allocation with an open move isn't put into the table again (a pilhangko_vulkan_defragmentation sees to that). Where a
+ * proposal fails, those before it are abandoned, and what moves holds doesn't count. (c/pilhangko_vulkan_moves.c)
  * NULL_POINTER. NO_HANDLE. The causes of pilhangko_vulkan_propose_move. */
 PILHANGKO_NODISCARD PILHANGKO_API pilhangko_status PILHANGKO_CALL pilhangko_vulkan_propose_moves(pilhangko_vulkan *vulkan,
     const pilhangko_vulkan_movable *movables, size_t count, VkDeviceSize bytes, pilhangko_vulkan_move *moves, size_t room, size_t *proposed);
+
+/* Moves that stay open over frames, and what came of those that were finished. It begins zeroed, as in `pilhangko_vulkan_defragmentation it = {0};`,
+ * and its fields are only read. While moves are open it is one binding's, and holds host memory: end it then. It has no lock: it is given to one
+ * call at a time, on any thread. Other threads may call the binding meanwhile, whose own lock holds, but do nothing with the allocations of open
+ * moves. (c/pilhangko_vulkan_defragment.c) */
+typedef struct pilhangko_vulkan_defragmentation {
+    size_t open;                   /* moves that are neither finished nor abandoned */
+    bool done;                     /* whether the last propose found no move while none was open */
+    uint64_t moves_finished;
+    VkDeviceSize bytes_moved;      /* the sum of their sizes */
+    uint64_t blocks_given_back;    /* those that went back to the driver as finish freed first places */
+    VkDeviceSize bytes_given_back; /* the sum of these blocks' sizes */
+    struct pilhangko_vulkan_open_move *open_moves; /* the library's own, as are the next two */
+    size_t room;
+    const void *binding;
+} pilhangko_vulkan_defragmentation;
+
+/* Proposes the moves of a frame as pilhangko_vulkan_propose_moves does, and remembers them as open. Allocations that are a place of an open move
+ * are passed over, so that the table may be the same each frame. One that shall stay isn't put into it; one of more than so many bytes stays.
+ * Once none is proposed while none is open, it is done: by these bounds no allocation of the table has a place in a block that is looked at before
+ * its own. Where a proposal fails, those before it in this frame are abandoned, and what moves holds doesn't count.
+ * NULL_POINTER. NO_HANDLE. NOT_LIVE: moves of another binding are open. HOST_OUT_OF_MEMORY: its own, as it goes. The causes of
+ * pilhangko_vulkan_propose_move. */
+PILHANGKO_NODISCARD PILHANGKO_API pilhangko_status PILHANGKO_CALL pilhangko_vulkan_defragmentation_propose(pilhangko_vulkan *vulkan,
+    pilhangko_vulkan_defragmentation *it, const pilhangko_vulkan_movable *movables, size_t count, VkDeviceSize bytes,
+    pilhangko_vulkan_move *moves, size_t room, size_t *proposed);
+
+/* Finishes the open move to this second place: frees the first one, and gives its block back to the driver where that goes too. The buffer or
+ * image at the first is destroyed before, by vkDestroyBuffer or vkDestroyImage. (Where pilhangko_vulkan_destroy_buffer or _image freed the first
+ * place with it, the move is finished all the same, but no block of it is counted as given back.)
+ * NULL_POINTER. NO_HANDLE. NOT_LIVE: no open move of this binding is to this place, or the place was freed. */
+PILHANGKO_NODISCARD PILHANGKO_API pilhangko_status PILHANGKO_CALL pilhangko_vulkan_defragmentation_finish(
+    pilhangko_vulkan *vulkan, pilhangko_vulkan_defragmentation *it, const pilhangko_vulkan_allocation *to);
+
+/* Abandons the open move to this second place, and frees that, unless it was freed already. The buffer or image there is destroyed before. The
+ * allocation stays where it is, and may be proposed again.
+ * NULL_POINTER. NO_HANDLE. NOT_LIVE: no open move of this binding is to this place. */
+PILHANGKO_NODISCARD PILHANGKO_API pilhangko_status PILHANGKO_CALL pilhangko_vulkan_defragmentation_abandon(
+    pilhangko_vulkan *vulkan, pilhangko_vulkan_defragmentation *it, const pilhangko_vulkan_allocation *to);
+
+/* Abandons the open moves; one whose first place isn't live any more is finished instead. What was counted may still be read.
+ * NULL_POINTER. NO_HANDLE. NOT_LIVE: moves of another binding are open. */
+PILHANGKO_NODISCARD PILHANGKO_API pilhangko_status PILHANGKO_CALL pilhangko_vulkan_defragmentation_end(
+    pilhangko_vulkan *vulkan, pilhangko_vulkan_defragmentation *it);
 
 /* Renames a live allocation.
  * NULL_POINTER. NO_HANDLE. INVALID: the name. NOT_LIVE. HOST_OUT_OF_MEMORY. */

@@ -49,6 +49,11 @@ static void reply_budgets(void) {
     }
 }
 
+static void reply_no_place(void) {
+    reply_budgets();
+    reply("none");
+}
+
 static void reply_place(const pilhangko_heaps_piece *p) {
     const struct fake_heap *heap = (const struct fake_heap *)(uintptr_t)p->piece.block;
     char line[200];
@@ -329,6 +334,7 @@ static void moves_one(void) {
     if (status != PILHANGKO_OK || !wanted) {
         CHECK(moves == (status != PILHANGKO_OK) && it.allocation.serial == 0);
         stayed += status == PILHANGKO_OK;
+        if (status == PILHANGKO_OK) reply_no_place();
         return;
     }
     CHECK(moves && pilhangko_d3d12_user_data(&d3d12, &it.allocation, &it.word) == PILHANGKO_OK && it.word == word);

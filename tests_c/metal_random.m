@@ -48,6 +48,11 @@ static void reply_budgets(void) {
     }
 }
 
+static void reply_no_place(void) {
+    reply_budgets();
+    reply("none");
+}
+
 static void reply_allocation(NSUInteger heap) {
     const pilhangko_memory_piece *p = &account.placed.piece;
     char line[200];
@@ -304,6 +309,7 @@ static void moves_one(void) {
     if (status != PILHANGKO_OK || !wanted) {
         CHECK(moves == (status != PILHANGKO_OK) && is_untouched(&it.allocation));
         stayed += status == PILHANGKO_OK;
+        if (status == PILHANGKO_OK) reply_no_place();
         return;
     }
     meets(&it.allocation);

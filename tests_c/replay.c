@@ -144,12 +144,18 @@ static void binds(uint64_t number, const pilhangko_allocator_piece *piece, bool 
     if (piece) b->piece = *piece;
 }
 
+static void tells_place(const pilhangko_allocator_piece *place, bool is_dedicated) {
+    const pilhangko_memory_piece *piece = &place->piece;
+    printf("ok type %zu slot %zu offset %" PRIu64 " size %" PRIu64 " chunk %" PRIu64, place->memory_type, piece->slot, piece->offset,
+        piece->size, piece->number);
+    printf(" dedicated %s mapped %s\n", is_dedicated ? "true" : "false", place->address ? "true" : "false");
+}
+
 static void alloc(char **word) {
     const uint64_t number = strtoull(word[1], NULL, 10);
     const pilhangko_allocator_request request = asks(word);
     pilhangko_allocator_progress p;
     pilhangko_status status;
-    const pilhangko_memory_piece *piece = &p.piece.piece;
     const bool is_dedicated = request.scheme != PILHANGKO_SCHEME_MANAGED;
     if (bound_to(number)) {
         puts("busy");
@@ -159,9 +165,7 @@ static void alloc(char **word) {
     while (status == PILHANGKO_OK && p.kind == PILHANGKO_PROGRESS_QUESTION) status = answered(&p);
     if (refused(status == PILHANGKO_OK ? p.status : status)) return;
     binds(number, &p.piece, is_dedicated);
-    printf("ok type %zu slot %zu offset %" PRIu64 " size %" PRIu64 " chunk %" PRIu64, p.piece.memory_type, piece->slot, piece->offset,
-        piece->size, piece->number);
-    printf(" dedicated %s mapped %s\n", is_dedicated ? "true" : "false", p.piece.address ? "true" : "false");
+    tells_place(&p.piece, is_dedicated);
 }
 
 /* ---- the other commands of a number ---- */
@@ -177,6 +181,22 @@ static void frees(struct bound *b) {
 static void renames(const struct bound *b, const char *name) {
     if (!b->is_null) IS(pilhangko_allocator_rename(&allocator, &b->piece, name), PILHANGKO_OK);
     puts("ok");
+}
+
+/* A second place under a number of its own. A null allocation has no size that a request could have. */
+static void moves(const struct bound *b, char **word) {
+    const uint64_t to = strtoull(word[2], NULL, 10);
+    const pilhangko_allocator_request request = asks(word + 1);
+    pilhangko_allocator_piece place;
+    bool has_place = false;
+    if (bound_to(to)) puts("busy");
+    else if (b->is_null) puts("error E4");
+    else if (refused(pilhangko_allocator_propose_move(&allocator, &b->piece, &request, word[9], &has_place, &place))) return;
+    else if (!has_place) puts("none");
+    else {
+        binds(to, &place, false);
+        tells_place(&place, false);
+    }
 }
 
 /* Where the bytes of an allocation are; NULL, with the reply, where they can't be reached. */
@@ -316,11 +336,13 @@ static bool configures(char **word) {
 
 /* A command of a number that has to stand for an allocation. */
 static bool serves_bound(char **word) {
-    const bool is_one = !strcmp(word[0], "free") || !strcmp(word[0], "rename") || !strcmp(word[0], "write") || !strcmp(word[0], "read");
+    const bool is_one = !strcmp(word[0], "free") || !strcmp(word[0], "rename") || !strcmp(word[0], "write") || !strcmp(word[0], "read") ||
+                        !strcmp(word[0], "move");
     struct bound *b = is_one ? bound_to(strtoull(word[1], NULL, 10)) : NULL;
     if (is_one && !b) puts("unbound");
     else if (!strcmp(word[0], "free")) frees(b);
     else if (!strcmp(word[0], "rename")) renames(b, word[2]);
+    else if (!strcmp(word[0], "move")) moves(b, word);
     else if (!strcmp(word[0], "write")) writes(b, strtoull(word[2], NULL, 10), word[3]);
     else if (!strcmp(word[0], "read")) reads(b, strtoull(word[2], NULL, 10), strtoull(word[3], NULL, 10));
     return is_one;

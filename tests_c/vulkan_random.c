@@ -28,6 +28,7 @@ static uint64_t last_serial;
 static FILE *replies;                                    /* what the captured calls came to, or NULL */
 static pilhangko_budget captured_budgets[ACCOUNT_TYPES]; /* as the capture has them by now */
 static unsigned allocated, made, refused, second_attempts, freed, not_live, renamed, flushed, shared_after_all, moved, stayed;
+static unsigned finished, emptied, abandoned, not_open;
 
 static const char *const names[] = {NULL, "", "vertices", "a name that takes host memory of its own", "\xc3\xa9t\xc3\xa9 2",
     "a name of more than sixty-four bytes, which no trace can have as it stands here"};
@@ -52,13 +53,21 @@ static void reply_budgets(void) {
     }
 }
 
-static void reply_allocation(const pilhangko_allocator_piece *p, bool dedicated) {
+static void reply_place(size_t type, const pilhangko_memory_piece *p, bool dedicated, bool mapped) {
     char line[200];
     reply_budgets();
-    snprintf(line, sizeof line, "ok type %zu slot %zu offset %llu size %llu chunk %llu dedicated %s mapped %s", p->memory_type,
-        p->piece.slot, (unsigned long long)p->piece.offset, (unsigned long long)p->piece.size, (unsigned long long)p->piece.number,
-        word_of(dedicated), word_of(p->address != 0));
+    snprintf(line, sizeof line, "ok type %zu slot %zu offset %llu size %llu chunk %llu dedicated %s mapped %s", type, p->slot,
+        (unsigned long long)p->offset, (unsigned long long)p->size, (unsigned long long)p->number, word_of(dedicated), word_of(mapped));
     reply(line);
+}
+
+static void reply_allocation(const pilhangko_allocator_piece *p, bool dedicated) {
+    reply_place(p->memory_type, &p->piece, dedicated, p->address != 0);
+}
+
+static void reply_no_place(void) {
+    reply_budgets();
+    reply("none");
 }
 
 /* INVALID requests aren't captured; the two statuses that have the number 6 in a trace are told apart here. */
@@ -398,6 +407,7 @@ static void moves_one(void) {
     stayed += !moves;
     if (!moves) {
         CHECK(it.allocation.serial == 0);
+        reply_no_place();
         return;
     }
     meets(&it.allocation);
@@ -405,6 +415,150 @@ static void moves_one(void) {
     reply_allocation(&it.allocation.piece, false);
     keeps(&it);
     moved++;
+}
+
+/* ---- moves over frames */
+
+#define OPEN 40
+#define FRAME 6
+
+/* A move that is open until it is told that it isn't: either place may be freed before. */
+struct open_move {
+    pilhangko_vulkan_allocation from, to;
+};
+
+static pilhangko_vulkan_defragmentation defragmentation, counted; /* the binding's, and what the account counts */
+static struct open_move open_moves[OPEN];
+
+static bool is_place(const pilhangko_vulkan_allocation *a) {
+    for (size_t i = 0; i < counted.open; i++)
+        if (open_moves[i].from.serial == a->serial || open_moves[i].to.serial == a->serial) return true;
+    return false;
+}
+
+static void is_counted(void) {
+    CHECK(defragmentation.open == counted.open && defragmentation.moves_finished == counted.moves_finished);
+    CHECK(defragmentation.bytes_moved == counted.bytes_moved && defragmentation.blocks_given_back == counted.blocks_given_back);
+    CHECK(defragmentation.bytes_given_back == counted.bytes_given_back && !defragmentation.open_moves == !counted.open);
+}
+
+/* The moves of a frame by the account: the indices of the allocations, and their second places. A capture has those that stay, too. */
+static size_t foretell_frame(VkDeviceSize bytes, size_t room, size_t *indices, pilhangko_memory_piece *places) {
+    size_t found = 0;
+    for (size_t slot = 0; slot < ACCOUNT_SLOTS; slot++)
+        for (size_t i = 0; i < live_count && found < room; i++) {
+            const pilhangko_vulkan_allocation *a = &live[i].allocation;
+            const pilhangko_memory_request asks = {a->size, live[i].alignment, live[i].kind, false};
+            if (a->piece.piece.slot != slot || a->size > bytes || is_place(a)) continue;
+            const size_t type = a->piece.memory_type;
+            if (!type_place(&account.types[type], slot + 1, &asks, "", &places[found])) {
+                reply_no_place();
+                continue;
+            }
+            reply_place(type, &places[found], false, (account.flags[type] & 2) != 0);
+            bytes -= a->size;
+            indices[found++] = i;
+        }
+    return found;
+}
+
+static void opens(const struct live *of, const pilhangko_memory_piece *place, const pilhangko_vulkan_allocation *to) {
+    struct live it = *of;
+    it.allocation = *to;
+    it.buffer = VK_NULL_HANDLE;
+    it.image = VK_NULL_HANDLE;
+    account.type = of->allocation.piece.memory_type;
+    account.placed.piece = *place;
+    account.placed.piece.block = account.types[account.type].slots[place->slot].block; /* by now it may have been told */
+    meets(to);
+    open_moves[counted.open].from = of->allocation;
+    open_moves[counted.open++].to = *to;
+    keeps(&it);
+}
+
+static void proposes_frame(void) {
+    static pilhangko_vulkan_movable movables[LIVE];
+    const size_t left = LIVE - live_count < OPEN - counted.open ? LIVE - live_count : OPEN - counted.open;
+    const size_t wanted = random_below(FRAME + 1), room = wanted < left ? wanted : left;
+    const VkDeviceSize bytes = random_below(2 * MB);
+    const uint64_t first = fake.questions;
+    pilhangko_vulkan_move moves[FRAME];
+    pilhangko_memory_piece places[FRAME];
+    size_t indices[FRAME], proposed = 99;
+    for (size_t i = 0; i < live_count; i++) {
+        movables[i].allocation = live[i].allocation;
+        movables[i].request = fake_request(live[i].allocation.size, live[i].alignment, 1);
+        movables[i].request.kind = live[i].kind;
+    }
+    const size_t found = foretell_frame(bytes, room, indices, places);
+    IS(pilhangko_vulkan_defragmentation_propose(&vulkan, &defragmentation, movables, live_count, bytes, moves, room, &proposed), PILHANGKO_OK);
+    CHECK(proposed == found && fake.questions == first);
+    for (size_t i = 0; i < found; i++) {
+        CHECK(moves[i].index == indices[i]);
+        opens(&live[indices[i]], &places[i], &moves[i].to);
+    }
+    CHECK(defragmentation.done == (counted.open == 0));
+    is_counted();
+}
+
+/* A place is freed with its move, where it is live; how many bytes go back. */
+static VkDeviceSize goes(const pilhangko_vulkan_allocation *a) {
+    const size_t i = live_at(a);
+    const VkDeviceSize before = allocator_capacity(&account);
+    if (i == live_count) return 0;
+    if (live[i].buffer) fake_destroy_buffer((VkDevice)(uintptr_t)2, live[i].buffer, NULL);
+    if (live[i].image) fake_destroy_image((VkDevice)(uintptr_t)2, live[i].image, NULL);
+    type_free(&account.types[a->piece.memory_type], &a->piece.piece, allocator_find(&account, &a->piece));
+    reply("ok");
+    stale[random_below(STALE)] = *a;
+    live[i] = live[--live_count];
+    return before - allocator_capacity(&account);
+}
+
+static void is_finished(const struct open_move *move) {
+    const VkDeviceSize bytes = goes(&move->from);
+    counted.moves_finished++;
+    counted.bytes_moved += move->to.size;
+    counted.blocks_given_back += bytes > 0;
+    counted.bytes_given_back += bytes;
+    finished++;
+    emptied += bytes > 0;
+}
+
+static void is_abandoned(const struct open_move *move) {
+    (void)goes(&move->to);
+    abandoned++;
+}
+
+/* One that is open is told to be done or to have failed; at times it isn't open, or its second place is gone. */
+static void ends_move(void) {
+    const bool finishes = random_below(3) > 0;
+    const pilhangko_vulkan_allocation to =
+        counted.open > 0 && random_below(10) ? open_moves[random_below(counted.open)].to : some_allocation();
+    size_t at = 0;
+    while (at < counted.open && open_moves[at].to.serial != to.serial) at++;
+    const bool may = at < counted.open && (!finishes || live_at(&to) < live_count);
+    if (may) {
+        const struct open_move move = open_moves[at];
+        open_moves[at] = open_moves[--counted.open];
+        if (finishes) is_finished(&move);
+        else is_abandoned(&move);
+    }
+    not_open += !may;
+    IS(finishes ? pilhangko_vulkan_defragmentation_finish(&vulkan, &defragmentation, &to)
+                : pilhangko_vulkan_defragmentation_abandon(&vulkan, &defragmentation, &to),
+        may ? (pilhangko_status)PILHANGKO_OK : PILHANGKO_NOT_LIVE);
+    is_counted();
+}
+
+static void ends_moves(void) {
+    while (counted.open > 0) {
+        const struct open_move move = open_moves[--counted.open];
+        if (live_at(&move.from) < live_count || live_at(&move.to) == live_count) is_abandoned(&move);
+        else is_finished(&move);
+    }
+    IS(pilhangko_vulkan_defragmentation_end(&vulkan, &defragmentation), PILHANGKO_OK);
+    is_counted();
 }
 
 /* A range within the allocation, at times one that isn't. The driver checks that it is whole atoms; it has to cover the bytes. */
@@ -502,6 +656,10 @@ static void step(void) {
         else updates_budgets();
     } else if (live_count < LIVE && what >= 820) {
         moves_one();
+    } else if (what >= 790 && what < 796) {
+        proposes_frame();
+    } else if (what >= 796 && what < 820) {
+        ends_move();
     } else if (live_count < LIVE && what < (live_count < target ? 700 : 180)) {
         if (what % 3) allocates();
         else creates();
@@ -525,6 +683,8 @@ static void begins(FILE *capture) {
     live_count = last_serial = 0;
     memset(stale, 0, sizeof stale);
     memset(captured_budgets, 0, sizeof captured_budgets);
+    memset(&defragmentation, 0, sizeof defragmentation);
+    memset(&counted, 0, sizeof counted);
     account.type_count = 5;
     account.awaits_answer = false;
     for (size_t i = 0; i < 5; i++) {
@@ -539,6 +699,7 @@ static void begins(FILE *capture) {
 /* Some allocations leak; their blocks go back to the driver all the same. */
 static void ends(void) {
     pilhangko_vulkan_ending ending;
+    ends_moves();
     looks();
     while (live_count > 7) {
         IS(frees_one(&live[live_count - 1], &live[live_count - 1].allocation), PILHANGKO_OK);
@@ -577,10 +738,12 @@ int main(int count, char **words) {
         ends();
     }
     printf("200000 calls: %u allocated, %u made, %u refused, %u at the second attempt, %u shared after all, %u freed, %u not live, "
-           "%u renamed, %u flushed, %u moved, %u stayed\n",
-        allocated, made, refused, second_attempts, shared_after_all, freed, not_live, renamed, flushed, moved, stayed);
+           "%u renamed, %u flushed, %u moved, %u stayed, %u moves finished, %u blocks emptied, %u abandoned, %u not open\n",
+        allocated, made, refused, second_attempts, shared_after_all, freed, not_live, renamed, flushed, moved, stayed, finished, emptied,
+        abandoned, not_open);
     CHECK(allocated > 10000 && made > 5000 && refused > 10000 && second_attempts > 300 && freed > 15000 && not_live > 1000);
     CHECK(renamed > 1000 && flushed > 100 && shared_after_all > 20 && moved > 500 && stayed > 500);
+    CHECK(finished > 100 && emptied > 5 && abandoned > 100 && not_open > 100);
     if (count == 3) captured_run(words[1], words[2]);
     return 0;
 }

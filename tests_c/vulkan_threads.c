@@ -1,11 +1,12 @@
 /* Several threads at once on one binding, which locks itself: each allocates and frees memory of its own, looks at it, renames it, and sets
- * bounds that never count. What the fake driver is asked, it is asked under the lock. */
+ * bounds that never count; one moves its own. What the fake driver is asked, it is asked under the lock. */
 #include "fake_vulkan.h"
 #include <pthread.h>
 
 #define THREADS 4
 #define TURNS 2000
 #define LIVE 8
+#define BLOCK (UINT64_C(4) << 20)
 
 static pilhangko_vulkan vulkan;
 
@@ -52,6 +53,37 @@ static void *takes_turns(void *number) {
     return NULL;
 }
 
+/* Fills two blocks of a memory type of its own with eight pieces, frees two of each, and moves the two that are left in the lower slot, at the
+ * second try: one block goes back. */
+static void *moves(void *unused) {
+    (void)unused;
+    for (unsigned turn = 0; turn < TURNS / 4; turn++) {
+        pilhangko_vulkan_defragmentation it = {0};
+        pilhangko_vulkan_movable table[8];
+        pilhangko_vulkan_move open[4];
+        size_t proposed;
+        for (unsigned i = 0; i < 8; i++) {
+            table[i].request = asks(BLOCK / 4, 16);
+            IS(pilhangko_vulkan_allocate(&vulkan, &table[i].request, &table[i].allocation).status, PILHANGKO_OK);
+        }
+        for (unsigned i = 0; i < 4; i++) {
+            IS(pilhangko_vulkan_free(&vulkan, &table[2 * i].allocation), PILHANGKO_OK);
+            table[i] = table[2 * i + 1];
+        }
+        IS(pilhangko_vulkan_defragmentation_propose(&vulkan, &it, table, 4, BLOCK, open, 4, &proposed), PILHANGKO_OK);
+        CHECK(proposed == 2);
+        IS(pilhangko_vulkan_defragmentation_end(&vulkan, &it), PILHANGKO_OK);
+        IS(pilhangko_vulkan_defragmentation_propose(&vulkan, &it, table, 4, BLOCK, open, 4, &proposed), PILHANGKO_OK);
+        for (size_t i = 0; i < 2; i++) {
+            IS(pilhangko_vulkan_defragmentation_finish(&vulkan, &it, &open[i].to), PILHANGKO_OK);
+            table[open[i].index].allocation = open[i].to;
+        }
+        CHECK(proposed == 2 && it.open == 0 && it.moves_finished == 2 && it.blocks_given_back == 1 && it.bytes_given_back == BLOCK);
+        for (unsigned i = 0; i < 4; i++) IS(pilhangko_vulkan_free(&vulkan, &table[i].allocation), PILHANGKO_OK);
+    }
+    return NULL;
+}
+
 /* looks at the allocator behind the binding between lock and unlock */
 static void *looks(void *unused) {
     (void)unused;
@@ -60,25 +92,27 @@ static void *looks(void *unused) {
         IS(pilhangko_vulkan_lock(&vulkan), PILHANGKO_OK);
         IS(pilhangko_allocator_statistics(pilhangko_vulkan_allocator(&vulkan), &counted), PILHANGKO_OK);
         IS(pilhangko_vulkan_unlock(&vulkan), PILHANGKO_OK);
-        CHECK(counted.pieces <= THREADS * LIVE);
+        CHECK(counted.pieces <= THREADS * LIVE + 8);
     }
     return NULL;
 }
 
 int main(void) {
     unsigned char numbers[THREADS];
-    pthread_t threads[THREADS + 1];
+    pthread_t threads[THREADS + 2];
     pilhangko_vulkan_ending ending;
     pilhangko_vulkan_settings settings = fake_settings();
     settings.capture_write = NULL;
+    settings.host_block_size = settings.largest_host_block_size = BLOCK;
     fake_begin();
     IS(pilhangko_vulkan_create(&vulkan, &settings), PILHANGKO_OK);
     CHECK(pthread_create(&threads[THREADS], NULL, looks, NULL) == 0);
+    CHECK(pthread_create(&threads[THREADS + 1], NULL, moves, NULL) == 0);
     for (unsigned i = 0; i < THREADS; i++) {
         numbers[i] = (unsigned char)(i + 1);
         CHECK(pthread_create(&threads[i], NULL, takes_turns, &numbers[i]) == 0);
     }
-    for (unsigned i = 0; i <= THREADS; i++) CHECK(pthread_join(threads[i], NULL) == 0);
+    for (unsigned i = 0; i < THREADS + 2; i++) CHECK(pthread_join(threads[i], NULL) == 0);
     IS(pilhangko_vulkan_destroy(&vulkan, &ending), PILHANGKO_OK);
     CHECK(ending.leaks == 0);
     IS(pilhangko_vulkan_lock(NULL), PILHANGKO_NULL_POINTER);

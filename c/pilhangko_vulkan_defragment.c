@@ -1,0 +1,224 @@
+/* Moves that stay open over frames, by Pilhangko's Vulkan binding (include/pilhangko_vulkan.h): compile it with c/pilhangko_vulkan.c, as C11 or as
+ * C++11. */
+#include "pilhangko_vulkan_resource.h"
+#include <stdlib.h>
+
+/* ---- what is open ---- */
+
+struct pilhangko_vulkan_open_move {
+    pilhangko_vulkan_allocation from, to;
+};
+
+/* What no two allocations have alike. */
+struct name {
+    uint64_t owner, serial;
+};
+
+static struct name name_of(const pilhangko_vulkan_allocation *allocation) {
+    struct name name;
+    name.owner = allocation->owner;
+    name.serial = allocation->serial;
+    return name;
+}
+
+static int compare_names(const void *left, const void *right) {
+    const struct name *a = (const struct name *)left, *b = (const struct name *)right;
+    if (a->owner != b->owner) return a->owner < b->owner ? -1 : 1;
+    return (a->serial > b->serial) - (a->serial < b->serial);
+}
+
+/* The index of the open move with a second place; it->open where there is none. */
+static size_t find_open(const pilhangko_vulkan_defragmentation *it, const pilhangko_vulkan_allocation *to) {
+    const struct name wanted = name_of(to);
+    size_t at = 0;
+    for (; at < it->open; at++) {
+        const struct name name = name_of(&it->open_moves[at].to);
+        if (compare_names(&name, &wanted) == 0) break;
+    }
+    return at;
+}
+
+/* Without open moves there is no list of them. */
+static void drop_empty_list(pilhangko_vulkan_defragmentation *it) {
+    if (it->open > 0) return;
+    free(it->open_moves);
+    it->open_moves = NULL;
+    it->room = 0;
+    it->binding = NULL;
+}
+
+/* Whether there is room for one more. */
+static bool has_room(pilhangko_vulkan_defragmentation *it) {
+    const size_t room = it->room ? 2 * it->room : 16;
+    struct pilhangko_vulkan_open_move *moves;
+    if (it->open < it->room) return true;
+    moves = (struct pilhangko_vulkan_open_move *)realloc(it->open_moves, room * sizeof *moves);
+    if (!moves) return false;
+    it->open_moves = moves;
+    it->room = room;
+    return true;
+}
+
+static void forget(pilhangko_vulkan_defragmentation *it, size_t at) {
+    it->open_moves[at] = it->open_moves[--it->open];
+    drop_empty_list(it);
+}
+
+static bool is_live(const pilhangko_vulkan *vulkan, const pilhangko_vulkan_allocation *allocation) {
+    bool live = false;
+    return pilhangko_vulkan_is_live(vulkan, allocation, &live) == PILHANGKO_OK && live;
+}
+
+/* ---- a frame ---- */
+
+/* An allocation of the table that may move. */
+struct candidate {
+    size_t slot, index;
+};
+
+static int compare_candidates(const void *left, const void *right) {
+    const struct candidate *a = (const struct candidate *)left, *b = (const struct candidate *)right;
+    if (a->slot != b->slot) return a->slot < b->slot ? -1 : 1;
+    return (a->index > b->index) - (a->index < b->index);
+}
+
+/* The names of all places of open moves, ordered; NULL where the host has no memory. */
+static struct name *open_names(const pilhangko_vulkan_defragmentation *it) {
+    struct name *names = (struct name *)malloc((2 * it->open + 1) * sizeof *names);
+    if (!names) return NULL;
+    for (size_t i = 0; i < it->open; i++) {
+        names[2 * i] = name_of(&it->open_moves[i].from);
+        names[2 * i + 1] = name_of(&it->open_moves[i].to);
+    }
+    qsort(names, 2 * it->open, sizeof *names, compare_names);
+    return names;
+}
+
+/* The allocations that are no place of an open move, those in the lowest slot first; returns how many. */
+static size_t gather(const pilhangko_vulkan_defragmentation *it, const struct name *names, const pilhangko_vulkan_movable *movables,
+    size_t count, struct candidate *candidates) {
+    size_t found = 0;
+    for (size_t i = 0; i < count; i++) {
+        const struct name name = name_of(&movables[i].allocation);
+        if (bsearch(&name, names, 2 * it->open, sizeof name, compare_names)) continue;
+        candidates[found].slot = movables[i].allocation.piece.piece.slot;
+        candidates[found++].index = i;
+    }
+    qsort(candidates, found, sizeof *candidates, compare_candidates);
+    return found;
+}
+
+/* Proposes a move, if it keeps within the bytes that are left, and opens it. */
+static pilhangko_status propose_one(pilhangko_vulkan *vulkan, pilhangko_vulkan_defragmentation *it, const pilhangko_vulkan_movable *movable,
+    VkDeviceSize *bytes, bool *moves) {
+    struct pilhangko_vulkan_open_move *move;
+    pilhangko_status status;
+    *moves = false;
+    if (movable->request.requirements.size > *bytes) return PILHANGKO_OK;
+    if (!has_room(it)) return PILHANGKO_HOST_OUT_OF_MEMORY;
+    move = &it->open_moves[it->open];
+    status = pilhangko_vulkan_propose_move(vulkan, &movable->allocation, &movable->request, moves, &move->to);
+    if (status != PILHANGKO_OK || !*moves) return status;
+    move->from = movable->allocation;
+    it->open++;
+    *bytes -= move->to.size;
+    return PILHANGKO_OK;
+}
+
+/* Proposes moves of the candidates. */
+static pilhangko_status propose_all(pilhangko_vulkan *vulkan, pilhangko_vulkan_defragmentation *it, const pilhangko_vulkan_movable *movables,
+    const struct candidate *candidates, size_t count, VkDeviceSize bytes, pilhangko_vulkan_move *moves, size_t room) {
+    size_t made = 0;
+    for (size_t i = 0; i < count && made < room; i++) {
+        bool has_place;
+        const pilhangko_status status = propose_one(vulkan, it, &movables[candidates[i].index], &bytes, &has_place);
+        if (status != PILHANGKO_OK) return status;
+        if (!has_place) continue;
+        moves[made].index = candidates[i].index;
+        moves[made++].to = it->open_moves[it->open - 1].to;
+    }
+    return PILHANGKO_OK;
+}
+
+/* Abandons the open moves but the first so many. */
+static void abandon_rest(pilhangko_vulkan *vulkan, pilhangko_vulkan_defragmentation *it, size_t kept) {
+    while (it->open > kept) {
+        const pilhangko_status status = pilhangko_vulkan_free(vulkan, &it->open_moves[--it->open].to);
+        (void)status; /* it is live, unless another thread freed it */
+    }
+}
+
+/* ---- the calls ---- */
+
+/* Whether a call may go on: its other pointers aren't NULL, and no moves of another binding are open. */
+static pilhangko_status looks_right(const pilhangko_vulkan *vulkan, const pilhangko_vulkan_defragmentation *it, bool has_pointers) {
+    if (!vulkan || !it || !has_pointers) return PILHANGKO_NULL_POINTER;
+    if (!vulkan->opaque) return PILHANGKO_NO_HANDLE;
+    return it->open == 0 || it->binding == vulkan->opaque ? PILHANGKO_OK : PILHANGKO_NOT_LIVE;
+}
+
+pilhangko_status PILHANGKO_CALL pilhangko_vulkan_defragmentation_propose(pilhangko_vulkan *vulkan, pilhangko_vulkan_defragmentation *it,
+    const pilhangko_vulkan_movable *movables, size_t count, VkDeviceSize bytes, pilhangko_vulkan_move *moves, size_t room, size_t *proposed) {
+    struct name *names;
+    struct candidate *candidates;
+    size_t before;
+    pilhangko_status status = looks_right(vulkan, it, (movables || !count) && (moves || !room) && proposed);
+    if (status != PILHANGKO_OK) return status;
+    before = it->open;
+    names = open_names(it);
+    candidates = names ? (struct candidate *)malloc((count + 1) * sizeof *candidates) : NULL;
+    status = PILHANGKO_HOST_OUT_OF_MEMORY;
+    if (candidates) {
+        const size_t found = gather(it, names, movables, count, candidates);
+        status = propose_all(vulkan, it, movables, candidates, found, bytes, moves, room);
+    }
+    free(candidates);
+    free(names);
+    if (status != PILHANGKO_OK) abandon_rest(vulkan, it, before);
+    if (status == PILHANGKO_OK) *proposed = it->open - before;
+    if (status == PILHANGKO_OK) it->done = it->open == 0;
+    it->binding = vulkan->opaque;
+    drop_empty_list(it);
+    return status;
+}
+
+pilhangko_status PILHANGKO_CALL pilhangko_vulkan_defragmentation_finish(
+    pilhangko_vulkan *vulkan, pilhangko_vulkan_defragmentation *it, const pilhangko_vulkan_allocation *to) {
+    const pilhangko_status status = looks_right(vulkan, it, to != NULL);
+    VkDeviceSize bytes = 0;
+    size_t at;
+    if (status != PILHANGKO_OK) return status;
+    at = find_open(it, to);
+    if (at == it->open || !is_live(vulkan, &it->open_moves[at].to)) return PILHANGKO_NOT_LIVE;
+    if (pilhangko_vulkan_free_counted(vulkan, &it->open_moves[at].from, &bytes) != PILHANGKO_OK) bytes = 0; /* the caller freed it */
+    it->moves_finished++;
+    it->bytes_moved += it->open_moves[at].to.size;
+    it->blocks_given_back += bytes > 0;
+    it->bytes_given_back += bytes;
+    forget(it, at);
+    return PILHANGKO_OK;
+}
+
+pilhangko_status PILHANGKO_CALL pilhangko_vulkan_defragmentation_abandon(
+    pilhangko_vulkan *vulkan, pilhangko_vulkan_defragmentation *it, const pilhangko_vulkan_allocation *to) {
+    pilhangko_status status = looks_right(vulkan, it, to != NULL);
+    size_t at;
+    if (status != PILHANGKO_OK) return status;
+    at = find_open(it, to);
+    if (at == it->open) return PILHANGKO_NOT_LIVE;
+    status = pilhangko_vulkan_free(vulkan, &it->open_moves[at].to);
+    (void)status; /* or the caller freed it */
+    forget(it, at);
+    return PILHANGKO_OK;
+}
+
+pilhangko_status PILHANGKO_CALL pilhangko_vulkan_defragmentation_end(pilhangko_vulkan *vulkan, pilhangko_vulkan_defragmentation *it) {
+    pilhangko_status status = looks_right(vulkan, it, true);
+    while (status == PILHANGKO_OK && it->open > 0) {
+        const struct pilhangko_vulkan_open_move last = it->open_moves[it->open - 1];
+        const bool is_finished = !is_live(vulkan, &last.from) && is_live(vulkan, &last.to);
+        status = is_finished ? pilhangko_vulkan_defragmentation_finish(vulkan, it, &last.to)
+                             : pilhangko_vulkan_defragmentation_abandon(vulkan, it, &last.to);
+    }
+    return status;
+}
