@@ -11,10 +11,10 @@ use crate::memory_type::{MemoryRequest, Prepared};
 use crate::plan::{MemoryNeeds, Resource};
 use crate::virtual_block::VirtualRequest;
 use crate::vulkan::{
-    AllocationCreateDesc, AllocationScheme, Allocator, AllocatorCreateDesc, MemoryRequirements, TransientCreateDesc,
-    TransientResource, UploadRing,
+    AllocationCreateDesc, AllocationScheme, Allocator, AllocatorCreateDesc, Defragmentation, MemoryRequirements, Move,
+    TransientCreateDesc, TransientResource, UploadRing,
 };
-use crate::{plan, AllocationError, Kind, MemoryLocation, MemoryType, Result, Ring, VirtualBlock};
+use crate::{plan, AllocationError, AllocationSizes, Kind, MemoryLocation, MemoryType, Result, Ring, VirtualBlock};
 use common::FakeDriver;
 
 /// Names that are too long to be kept without host memory.
@@ -230,6 +230,49 @@ fn of_transient_resources() {
     allocator.free_transient(made).unwrap();
     assert!(!has_refused());
     refuse(0);
+    drop(allocator);
+    driver.assert_left_empty();
+    assert_eq!(held(), 0);
+}
+
+#[test]
+fn of_a_defragmentation() {
+    let driver = FakeDriver::new(&[(1, 0)], &[1 << 30], 64);
+    let sizes = AllocationSizes::new(4 << 20, 4 << 20);
+    let desc = AllocatorCreateDesc { allocation_sizes: sizes, ..AllocatorCreateDesc::new(driver.device()) };
+    let mut allocator = Allocator::new(&desc).unwrap();
+    let request = AllocationCreateDesc {
+        name: NAME,
+        requirements: MemoryRequirements { size: 1 << 20, alignment: 4, memory_type_bits: 1 },
+        location: MemoryLocation::GpuOnly,
+        linear: true,
+        allocation_scheme: AllocationScheme::GpuAllocatorManaged,
+    };
+    let mut live: Vec<_> = (0..8).map(|_| allocator.allocate(&request).unwrap()).collect();
+    live.drain(5..).for_each(|it| allocator.free(it).unwrap()); // three gaps above four pieces
+    let movables: Vec<_> = live.iter().map(|it| (it, request.clone())).collect();
+    let mut both = (Defragmentation::new(), allocator);
+    for open in [0, 2] {
+        let frame = |(it, allocator): &mut (Defragmentation, Allocator)| {
+            it.propose(allocator, &movables, 1 << 30, 2).map(<[Move]>::len)
+        };
+        let unchanged = |(it, allocator): &(Defragmentation, Allocator)| {
+            assert_eq!((it.open().len(), allocator.statistics().pieces), (open, 5 + open));
+        };
+        let (proposed, refusals) = in_turn(&mut both, frame, unchanged);
+        assert_eq!((proposed, both.0.open().len()), (2 - open / 2, 2 + open / 2));
+        assert!(refusals > 0);
+    }
+    let (mut it, mut allocator) = both;
+    refuse(1); // no later call needs any
+    let key = it.open()[1].key();
+    it.finish(&mut allocator, key, &mut live[1]).unwrap();
+    let key = it.open()[0].key();
+    it.abandon(&mut allocator, key).unwrap();
+    assert_eq!(it.end(&mut allocator).map(|it| it.moves).map_err(|(error, _)| error), Ok(1));
+    assert!(!has_refused());
+    refuse(0);
+    live.into_iter().for_each(|it| allocator.free(it).unwrap());
     drop(allocator);
     driver.assert_left_empty();
     assert_eq!(held(), 0);

@@ -6,8 +6,9 @@ mod common;
 use common::{Asked, FakeDriver, Refusal, Visible, MB};
 use pilhangko::memory_type::BlockStatistics;
 use pilhangko::vulkan::{
-    Allocation, AllocationCreateDesc, AllocationScheme, Allocator, AllocatorCreateDesc, Buffer, Image,
-    MemoryPropertyFlags, MemoryRequirements, SharedAllocator, TypeStatistics,
+    Allocation, AllocationCreateDesc, AllocationScheme, Allocator, AllocatorCreateDesc, Buffer, Defragmentation,
+    DefragmentationStatistics, Image, MemoryPropertyFlags, MemoryRequirements, Move, MoveKey, SharedAllocator,
+    TypeStatistics,
 };
 use pilhangko::{AllocationError, AllocationSizes, AllocatorDebugSettings, Fault, Level, Logger, MemoryLocation};
 use std::sync::{Arc, Mutex};
@@ -174,6 +175,140 @@ fn the_moves_of_a_frame_empty_the_lowest_block_first() {
     live.into_iter().for_each(|it| a.free(it).unwrap());
     drop(a);
     driver.assert_left_empty();
+}
+
+/// Four blocks of 4 MB that were full of pieces of 1 MB: 0 and 1 are left in slot 0, 4 to 6 in slot 1, 8 to 10 in slot 2, 12 and 13 in slot 3.
+/// Of several blocks with a place the one in the highest slot serves.
+struct Scene {
+    it: Defragmentation,
+    allocator: Allocator,
+    pieces: Vec<Option<Allocation>>,
+    driver: Box<FakeDriver>,
+}
+
+impl Scene {
+    fn new() -> Self {
+        let driver = FakeDriver::new(&[(7, 0)], &[1024 * MB], 64);
+        let sizes = AllocationSizes::new(4 * MB, 4 * MB);
+        let desc = AllocatorCreateDesc { allocation_sizes: sizes, ..AllocatorCreateDesc::new(driver.device()) };
+        let mut allocator = Allocator::new(&desc).unwrap();
+        let wanted = request(MB, MemoryLocation::CpuToGpu);
+        let mut pieces: Vec<_> = (0..16).map(|_| Some(allocator.allocate(&wanted).unwrap())).collect();
+        for gone in [2, 3, 7, 11, 14, 15] {
+            allocator.free(pieces[gone].take().unwrap()).unwrap();
+        }
+        Scene { it: Defragmentation::new(), allocator, pieces, driver }
+    }
+
+    /// A frame over the pieces, the last first: of each move its key, the piece, and slot and offset of the second place.
+    fn frame(&mut self, bytes: u64, moves: usize) -> Vec<(MoveKey, usize, usize, u64)> {
+        let live: Vec<_> = (0..16).rev().filter(|&piece| self.pieces[piece].is_some()).collect();
+        let wanted = request(MB, MemoryLocation::CpuToGpu);
+        let movables: Vec<_> = live.iter().map(|&it| (self.pieces[it].as_ref().unwrap(), wanted.clone())).collect();
+        let questions = self.driver.state().questions;
+        let opened = self.it.propose(&mut self.allocator, &movables, bytes, moves).unwrap();
+        assert_eq!(self.driver.state().questions, questions);
+        let row = |it: &Move| (it.key(), live[it.index()], it.to().memory_block_index(), it.to().offset());
+        opened.iter().map(row).collect()
+    }
+
+    fn finish(&mut self, (key, piece, slot, offset): (MoveKey, usize, usize, u64)) {
+        let it = self.pieces[piece].as_mut().unwrap();
+        self.it.finish(&mut self.allocator, key, it).unwrap();
+        assert_eq!((it.memory_block_index(), it.offset(), it.size()), (slot, offset, MB));
+        assert!(self.allocator.is_live(it));
+    }
+
+    fn counts(&self, moves: u64, bytes_moved: u64, blocks_given_back: u64, bytes_given_back: u64) {
+        let expected = DefragmentationStatistics { moves, bytes_moved, blocks_given_back, bytes_given_back };
+        assert_eq!(self.it.statistics(), expected);
+        assert_eq!(self.driver.state().held.len() as u64, 4 - blocks_given_back);
+    }
+
+    fn end(mut self) -> DefragmentationStatistics {
+        let told = self.it.end(&mut self.allocator).map_err(|(error, _)| error).unwrap();
+        self.pieces.into_iter().flatten().for_each(|it| self.allocator.free(it).unwrap());
+        assert_eq!(self.allocator.statistics().pieces, 0); // no second place is left
+        drop(self.allocator);
+        self.driver.assert_left_empty();
+        told
+    }
+}
+
+/// Where the moves of a frame lead: the piece, slot and offset.
+fn places(moves: &[(MoveKey, usize, usize, u64)]) -> Vec<(usize, usize, u64)> {
+    moves.iter().map(|&(_, piece, slot, offset)| (piece, slot, offset)).collect()
+}
+
+/// Moves of two frames are open at once; they end in another order than they began.
+#[test]
+fn moves_stay_open_over_frames() {
+    let mut s = Scene::new();
+    assert!(s.frame(MB - 1, 16).is_empty() && s.it.is_done());
+    assert!(s.frame(8 * MB, 0).is_empty() && s.it.is_done());
+    let first = s.frame(MB + MB / 2, 16);
+    assert_eq!(places(&first), [(1, 3, 2 * MB)]); // of slot 0 the first of the list
+    let second = s.frame(8 * MB, 2); // the one that is open isn't proposed again
+    assert_eq!(places(&second), [(0, 3, 3 * MB), (6, 2, 3 * MB)]);
+    assert!(s.frame(8 * MB, 16).is_empty() && !s.it.is_done()); // all above is full, but three are open
+    assert_eq!(s.it.open().iter().map(Move::key).collect::<Vec<_>>(), [first[0].0, second[0].0, second[1].0]);
+    s.finish(second[1]);
+    s.counts(1, MB, 0, 0);
+    s.it.abandon(&mut s.allocator, first[0].0).unwrap();
+    s.finish(second[0]);
+    s.counts(2, 2 * MB, 0, 0);
+    let again = s.frame(8 * MB, 16);
+    assert_eq!(places(&again), [(1, 3, 2 * MB)]); // what was abandoned is proposed anew
+    s.finish(again[0]);
+    s.counts(3, 3 * MB, 1, 4 * MB); // slot 0 is empty
+    assert!(s.frame(8 * MB, 16).is_empty() && s.it.is_done());
+    let told =
+        DefragmentationStatistics { moves: 3, bytes_moved: 3 * MB, blocks_given_back: 1, bytes_given_back: 4 * MB };
+    assert_eq!(s.end(), told);
+}
+
+/// What isn't open is refused, and nothing changes; the end abandons what is open.
+#[test]
+fn a_move_that_is_not_open_does_not_end() {
+    let mut s = Scene::new();
+    let moves = s.frame(8 * MB, 16);
+    assert_eq!(places(&moves), [(1, 3, 2 * MB), (0, 3, 3 * MB), (6, 2, 3 * MB)]);
+    s.finish(moves[0]);
+    let place_of = |it: &Allocation| (it.memory_block_index(), it.offset());
+    // finished before; of another piece; of the null allocation
+    for (key, piece) in [(moves[0].0, 1), (moves[1].0, 6)] {
+        let it = s.pieces[piece].as_mut().unwrap();
+        let place = place_of(it);
+        let error = s.it.finish(&mut s.allocator, key, it).unwrap_err();
+        assert_eq!((error.number(), place_of(it), s.it.open().len()), (6, place, 2));
+        assert!(s.allocator.is_live(it));
+    }
+    assert!(s.it.finish(&mut s.allocator, moves[1].0, &mut Allocation::default()).is_err());
+    assert_eq!(s.it.abandon(&mut s.allocator, moves[0].0).unwrap_err().number(), 6);
+    // another defragmentation, and another allocator
+    let mut other = Scene::new();
+    assert_eq!(other.it.abandon(&mut s.allocator, moves[1].0).unwrap_err().number(), 6);
+    assert_eq!(s.it.abandon(&mut other.allocator, moves[1].0).unwrap_err().number(), 6);
+    let it = s.pieces[0].as_mut().unwrap();
+    let error = s.it.finish(&mut other.allocator, moves[1].0, it).unwrap_err();
+    assert_eq!((error.number(), s.it.open().len(), s.allocator.is_live(it)), (6, 2, true));
+    let (error, it) = std::mem::take(&mut s.it).end(&mut other.allocator).unwrap_err();
+    assert_eq!((error.number(), it.open().len()), (6, 2));
+    s.it = it;
+    s.counts(1, MB, 0, 0);
+    assert!(s.it.open().iter().all(|it| s.allocator.is_live(it.to())));
+    // a request in the middle of a list is no piece's
+    let moves = other.frame(MB, 16);
+    let wanted = request(MB, MemoryLocation::CpuToGpu);
+    let list = [
+        (other.pieces[0].as_ref().unwrap(), wanted.clone()),
+        (other.pieces[4].as_ref().unwrap(), request(1, MemoryLocation::CpuToGpu)),
+    ];
+    let refused = other.it.propose(&mut other.allocator, &list, 8 * MB, 16).map(<[Move]>::len);
+    assert_eq!(refused, Err(AllocationError::InvalidAllocationCreateDesc));
+    assert_eq!((other.it.open().len(), other.it.open()[0].key()), (1, moves[0].0));
+    assert_eq!(other.allocator.statistics().pieces, 10 + 1);
+    assert_eq!((s.end().moves, other.end().moves), (1, 0));
 }
 
 /// Of memory that needs flushes: each byte comes along, and where the driver refuses a flush the allocation stays.

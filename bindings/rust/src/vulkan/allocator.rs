@@ -226,19 +226,22 @@ impl Allocator {
         desc: &AllocationCreateDesc<'_>,
     ) -> Result<Option<Allocation>> {
         let own = copied(desc.name)?;
-        let piece = self.live(allocation)?.piece;
+        let held = self.live(allocation)?;
+        let (piece, number) = (held.piece, held.number);
         let requirements = self.device().in_whole_atoms(desc.requirements);
         let desc = AllocationCreateDesc { requirements, ..desc.clone() };
-        let Some(to) = self.machine.propose_move(&piece, &desc)? else { return Ok(None) };
-        self.requests += 1;
+        let to = self.machine.propose_move(&piece, &desc)?;
         if let Some(capture) = &mut self.capture {
-            capture.moved(self.requests, to.memory_type, &desc);
+            capture.moved(number, self.requests + 1, &desc);
         }
+        let Some(to) = to else { return Ok(None) };
+        self.requests += 1;
         Ok(Some(Allocation { held: Some(self.held(to, desc.allocation_scheme)), name: Some(own) }))
     }
 
     /// Proposes the moves of a frame: of these allocations, each with the request that it was made for, those in the lowest slots first, so
     /// that low blocks empty, while they sum up to at most so many bytes. A move is the index of its allocation here and the second place.
+    /// A [`Defragmentation`](super::Defragmentation) keeps those of many frames.
     ///
     /// The errors: `HostOutOfMemory` of the list, and those of `propose_move`, where the moves before it are abandoned.
     pub fn propose_moves(
@@ -246,13 +249,27 @@ impl Allocator {
         movables: &[(&Allocation, AllocationCreateDesc<'_>)],
         bytes: u64,
     ) -> Result<Vec<(usize, Allocation)>> {
+        self.propose_some(movables, bytes, usize::MAX, |_| true)
+    }
+
+    /// Proposes moves as `propose_moves` does, so many at most, of those allocations that may move.
+    pub(super) fn propose_some(
+        &mut self,
+        movables: &[(&Allocation, AllocationCreateDesc<'_>)],
+        bytes: u64,
+        most: usize,
+        may_move: impl Fn(&Allocation) -> bool,
+    ) -> Result<Vec<(usize, Allocation)>> {
         let (mut order, mut moves, mut left) = (Vec::new(), Vec::new(), bytes);
         order.try_reserve_exact(movables.len())?;
-        moves.try_reserve_exact(movables.len())?;
-        order.extend(0..movables.len());
+        moves.try_reserve_exact(most.min(movables.len()))?;
+        order.extend((0..movables.len()).filter(|&index| may_move(movables[index].0)));
         order.sort_unstable_by_key(|&index| (movables[index].0.memory_block_index(), index));
         for index in order {
             let (allocation, desc) = &movables[index];
+            if moves.len() == most {
+                break;
+            }
             if allocation.size() > left {
                 continue;
             }
@@ -554,6 +571,7 @@ mod tests {
         while script.live.len() < 100 || !script.live.iter().any(Allocation::is_dedicated) {
             script.step(calls.next().expect("calls without end"));
         }
+        script.end_moves();
         let (logged, texts) = leaks(&mut script.allocator);
         assert_eq!((logged.len(), texts.len()), (script.live.len(), script.live.len()));
         assert!(texts.iter().any(|text| text.contains("dedicated allocation")), "{}", texts.len());

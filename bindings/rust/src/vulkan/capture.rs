@@ -1,8 +1,8 @@
 //! Captures: what was asked of an allocator, as a trace that the program `gpu_trace` replays (docs/TRACE.md).
 
 use super::device::{Answer, Refusal};
-use super::{AllocationCreateDesc, AllocationScheme, Device, MemoryRequirements};
-use crate::{AllocationError, AllocationSizes, MemoryLocation, Result};
+use super::{AllocationCreateDesc, AllocationScheme, Device};
+use crate::{AllocationError, AllocationSizes, Result};
 use std::fmt::{self, Write as _};
 use std::io;
 use std::iter;
@@ -33,7 +33,7 @@ pub enum CaptureEnd {
 /// What was asked of an allocator since it was made, and what its driver refused, as a device trace: `gpu_trace` replays it over a
 /// simulated device, with the same memory types, slots, places and causes of refusal. `Display` prints the trace.
 ///
-/// Allocations, frees and renamings are recorded, and budgets where an allocation finds them, or the end: of several that were set in turn the
+/// Allocations, proposed moves, frees and renamings are recorded, and budgets where an allocation or a move finds them, or the end: of several that were set in turn the
 /// last, where it is another than before. Null allocations, allocations of other allocators and requests that the host had no memory for are
 /// left out: they change nothing. A name is brought into a trace's alphabet: `_` stands for other characters and for an
 /// empty name, and it is cut at 64 bytes.
@@ -127,23 +127,12 @@ impl Capture {
 
     /// Records a request under its number, which stands for its allocation.
     pub(super) fn allocated(&mut self, number: u64, desc: &AllocationCreateDesc<'_>) {
-        let needs = &desc.requirements;
-        let (size, alignment, bits) = (needs.size, needs.alignment, needs.memory_type_bits);
-        let (location, name) = (desc.location, TraceName(desc.name));
-        let kind = if desc.linear { "linear" } else { "nonlinear" };
-        let scheme = Scheme(desc.allocation_scheme);
-        self.record_behind_budgets(format_args!(
-            "alloc {number} {size} {alignment} {bits} {location:?} {kind} {scheme} {name}"
-        ));
+        self.record_behind_budgets(format_args!("alloc {number} {}", Request(desc)));
     }
 
-    /// Records a second place under its number, as an allocation that replays alike: of its memory type alone, and for any location.
-    pub(super) fn moved(&mut self, number: u64, memory_type: usize, desc: &AllocationCreateDesc<'_>) {
-        let requirements = MemoryRequirements { memory_type_bits: 1 << memory_type, ..desc.requirements };
-        self.allocated(
-            number,
-            &AllocationCreateDesc { requirements, location: MemoryLocation::Unknown, ..desc.clone() },
-        );
+    /// Records a proposed move of the allocation with this number; the second place, where there is one, stands under `to`.
+    pub(super) fn moved(&mut self, number: u64, to: u64, desc: &AllocationCreateDesc<'_>) {
+        self.record_behind_budgets(format_args!("move {number} {to} {}", Request(desc)));
     }
 
     /// Forgets what the driver was asked since the last call: the host had no memory for this one.
@@ -315,6 +304,20 @@ impl fmt::Write for Lines {
     }
 }
 
+/// A request in a trace's words.
+struct Request<'a>(&'a AllocationCreateDesc<'a>);
+
+impl fmt::Display for Request<'_> {
+    fn fmt(&self, f: &mut fmt::Formatter<'_>) -> fmt::Result {
+        let needs = &self.0.requirements;
+        let (size, alignment, bits) = (needs.size, needs.alignment, needs.memory_type_bits);
+        let (location, name) = (self.0.location, TraceName(self.0.name));
+        let kind = if self.0.linear { "linear" } else { "nonlinear" };
+        let scheme = Scheme(self.0.allocation_scheme);
+        write!(f, "{size} {alignment} {bits} {location:?} {kind} {scheme} {name}")
+    }
+}
+
 /// What memory is made for, in a trace's words.
 struct Scheme(AllocationScheme);
 
@@ -341,6 +344,8 @@ impl fmt::Display for TraceName<'_> {
 #[cfg(test)]
 mod tests {
     use super::*;
+    use crate::vulkan::MemoryRequirements;
+    use crate::MemoryLocation;
 
     fn request(name: &str) -> AllocationCreateDesc<'_> {
         AllocationCreateDesc {

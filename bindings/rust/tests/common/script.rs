@@ -4,8 +4,8 @@
 use super::account::{Account, Met};
 use super::{FakeDriver, Random, Refusal, MB};
 use pilhangko::vulkan::{
-    Allocation, AllocationCreateDesc, AllocationScheme, Allocator, AllocatorCreateDesc, Buffer, Image,
-    MemoryRequirements,
+    Allocation, AllocationCreateDesc, AllocationScheme, Allocator, AllocatorCreateDesc, Buffer, Defragmentation,
+    DefragmentationStatistics, Image, MemoryRequirements, MoveKey,
 };
 use pilhangko::{AllocationError, AllocationSizes, MemoryLocation, Result};
 use std::collections::BTreeMap;
@@ -40,6 +40,12 @@ pub struct Script {
     pub outcomes: BTreeMap<u32, u64>,
     /// How often a second place was found, and how often there was none.
     pub moves: BTreeMap<bool, u64>,
+    pub defragmentation: Defragmentation,
+    /// The open moves, and where their first places lie.
+    open: Vec<(MoveKey, (usize, usize, u64))>,
+    /// What the account counts of finished moves, and how many moves were abandoned.
+    pub finished: DefragmentationStatistics,
+    pub abandoned: u64,
     is_captured: bool,
     /// The budgets as the capture has them by now.
     captured_budgets: Vec<Option<u64>>,
@@ -103,17 +109,21 @@ fn place(it: &Allocation) -> (usize, usize, u64) {
 fn reply(result: &Result<Allocation>) -> Reply {
     match result {
         Err(error) => format!("error E{}", error.number()),
-        Ok(it) => format!(
-            "ok type {} slot {} offset {} size {} chunk {} dedicated {} mapped {}",
-            it.memory_type_index(),
-            it.memory_block_index(),
-            it.offset(),
-            it.size(),
-            it.chunk_id().map_or(0, u64::from),
-            it.is_dedicated(),
-            it.mapped_ptr().is_some()
-        ),
+        Ok(it) => reply_of(it),
     }
+}
+
+fn reply_of(it: &Allocation) -> Reply {
+    format!(
+        "ok type {} slot {} offset {} size {} chunk {} dedicated {} mapped {}",
+        it.memory_type_index(),
+        it.memory_block_index(),
+        it.offset(),
+        it.size(),
+        it.chunk_id().map_or(0, u64::from),
+        it.is_dedicated(),
+        it.mapped_ptr().is_some()
+    )
 }
 
 impl Script {
@@ -135,6 +145,10 @@ impl Script {
             driver,
             outcomes: BTreeMap::new(),
             moves: BTreeMap::new(),
+            defragmentation: Defragmentation::new(),
+            open: Vec::new(),
+            finished: DefragmentationStatistics::default(),
+            abandoned: 0,
             is_captured,
             captured_budgets: vec![None; TYPES.len()],
         }
@@ -195,6 +209,10 @@ impl Script {
         self.allocator.free(it).expect("a live allocation is freed");
         self.account.freed(place);
         self.told("ok".to_owned());
+        // its move can't be finished any more
+        if let Some(at) = self.open.iter().position(|&(_, from)| from == place) {
+            self.abandon(at);
+        }
     }
 
     pub fn rename(&mut self) {
@@ -234,7 +252,11 @@ impl Script {
         let proposed = self.allocator.propose_move(from, &desc).expect("a live allocation of that size may move");
         assert_eq!(self.driver.state().questions, questions);
         *self.moves.entry(proposed.is_some()).or_default() += 1;
-        let Some(mut to) = proposed else { return };
+        let Some(mut to) = proposed else {
+            self.told_budgets();
+            self.told("none".to_owned());
+            return;
+        };
         self.account.moved(&self.driver, &desc, from, &to);
         assert!(self.allocator.is_live(from) && self.allocator.is_live(&to));
         assert_eq!(to.name(), Some(desc.name));
@@ -244,6 +266,116 @@ impl Script {
         self.told_budgets();
         self.told(reply(&result));
         self.live.extend(result);
+    }
+
+    /// The moves of a frame over all that is live; they stay open.
+    pub fn propose_frame(&mut self) {
+        let descs: Vec<_> = self.live.iter().map(|it| self.described_again(it)).collect();
+        let movables: Vec<_> = self.live.iter().zip(descs.iter().cloned()).collect();
+        let (bytes, most) = (self.random.below(2 * MB), self.random.below(6) as usize);
+        let mut candidates: Vec<_> = (0..self.live.len()).filter(|&index| !self.is_open(&self.live[index])).collect();
+        candidates.sort_by_key(|&index| self.live[index].memory_block_index());
+        let moves = self.defragmentation.propose(&mut self.allocator, &movables, bytes, most).expect("all may move");
+        assert!(moves.len() <= most && moves.iter().map(|it| it.to().size()).sum::<u64>() <= bytes);
+        let mut placed = BTreeMap::new();
+        let mut last = 0;
+        for it in moves {
+            let from = &self.live[it.index()];
+            assert!(self.open.iter().all(|&(_, first)| first != place(from)) && from.memory_block_index() >= last);
+            last = from.memory_block_index();
+            self.account.moved(&self.driver, &descs[it.index()], from, it.to());
+            self.open.push((it.key(), place(from)));
+            placed.insert(it.index(), reply_of(it.to()));
+        }
+        assert_eq!(self.defragmentation.is_done(), self.open.is_empty());
+        self.told_frame(&candidates, bytes, most, &placed);
+    }
+
+    /// A capture has each proposal of a frame, also those of allocations that stay.
+    fn told_frame(&mut self, candidates: &[usize], mut bytes: u64, most: usize, placed: &BTreeMap<usize, Reply>) {
+        let mut moved = 0;
+        for index in candidates {
+            let size = self.live[*index].size();
+            if moved == most {
+                return;
+            }
+            if size > bytes {
+                continue;
+            }
+            self.told_budgets();
+            self.told(placed.get(index).cloned().unwrap_or_else(|| "none".to_owned()));
+            if placed.contains_key(index) {
+                (moved, bytes) = (moved + 1, bytes - size);
+            }
+        }
+    }
+
+    fn is_open(&self, it: &Allocation) -> bool {
+        self.open.iter().any(|&(_, first)| first == place(it))
+    }
+
+    /// A request that an allocation could have been made for.
+    fn described_again(&self, it: &Allocation) -> AllocationCreateDesc<'static> {
+        AllocationCreateDesc {
+            name: "moved",
+            requirements: MemoryRequirements {
+                size: it.size(),
+                alignment: 16,
+                memory_type_bits: 1 << it.memory_type_index(),
+            },
+            location: MemoryLocation::Unknown,
+            linear: self.account.is_linear(place(it)),
+            allocation_scheme: AllocationScheme::GpuAllocatorManaged,
+        }
+    }
+
+    /// Finishes an open move, or abandons it.
+    pub fn end_move(&mut self) {
+        if self.open.is_empty() {
+            return;
+        }
+        let at = self.random.below(self.open.len() as u64) as usize;
+        if self.random.one_in(3) {
+            self.abandon(at);
+        } else {
+            self.finish(at);
+        }
+    }
+
+    fn finish(&mut self, at: usize) {
+        let (key, first) = self.open.swap_remove(at);
+        let index = self.live.iter().position(|it| place(it) == first).expect("the first place is live");
+        let it = &mut self.live[index];
+        assert_marked(it);
+        let before = self.account.capacity();
+        self.account.freed(first);
+        let given_back = before - self.account.capacity();
+        self.defragmentation.finish(&mut self.allocator, key, it).expect("the move is open");
+        mark(it);
+        self.finished.moves += 1;
+        self.finished.bytes_moved += it.size();
+        self.finished.blocks_given_back += u64::from(given_back > 0);
+        self.finished.bytes_given_back += given_back;
+        assert_eq!(self.defragmentation.statistics(), self.finished);
+        assert!(self.defragmentation.abandon(&mut self.allocator, key).is_err());
+        self.told("ok".to_owned());
+    }
+
+    fn abandon(&mut self, at: usize) {
+        let (key, _) = self.open.swap_remove(at);
+        let it = self.defragmentation.open().iter().find(|it| it.key() == key).expect("the move is open");
+        self.account.freed(place(it.to()));
+        self.defragmentation.abandon(&mut self.allocator, key).expect("the move is open");
+        self.abandoned += 1;
+        self.told("ok".to_owned());
+    }
+
+    /// Abandons what is open.
+    pub fn end_moves(&mut self) {
+        while !self.open.is_empty() {
+            self.abandon(0);
+        }
+        assert!(self.defragmentation.open().is_empty());
     }
 
     pub fn set_budget(&mut self) {
@@ -267,7 +399,9 @@ impl Script {
             0 => self.set_budget(),
             1..=3 => self.rename(),
             4..=8 => self.propose_move(),
-            it if it < 6 + allocates => self.allocate(),
+            9..=10 if self.random.one_in(4) => self.propose_frame(),
+            9..=10 => self.end_move(),
+            it if it < 8 + allocates => self.allocate(),
             _ => self.free(),
         }
         self.account.assert_held(&self.driver);
