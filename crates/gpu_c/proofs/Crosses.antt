@@ -33,7 +33,8 @@ use Rattle.gpu_block.specs.contracts.dedicated_block.DedicatedBlockAllocator as 
 use Rattle.gpu_block.specs.contracts.sub_allocator.SubAllocator as SubAllocator
 use Rattle.gpu_core.specs.contracts.slot.LiveBlock as Live
 use Rattle.gpu_core.specs.contracts.slots.Slots as Rows
-use Rattle.gpu_core.specs.contracts.longest.Longest as Longest
+use Rattle.gpu_core.specs.contracts.slots.Notes as Notes
+use Rattle.gpu_core.specs.contracts.marks.Marks as Marks
 use Rattle.gpu_core.specs.contracts.need.PendingBlock as PendingBlock
 use Rattle.gpu_core.specs.contracts.need.NeedBlock as NeedBlock
 use Rattle.gpu_core.specs.contracts.memory_type.MemoryType as MemoryType
@@ -145,15 +146,18 @@ pub block_send : IsSend VirtualBlock.the_row
 block_send = let s = sub_send in search sendable depth 20
 
 -- ---- a memory type
-longest_send : IsSend Longest.the_row
-longest_send = search (sendable, Vec-send) depth 20
+marks_send : IsSend Marks.the_row
+marks_send = search (sendable, Vec-send) depth 20
+
+notes_send : IsSend (Notes.the_field).row
+notes_send = let m = marks_send in search sendable depth 20
 
 module _ (H : RattleType) (s : IsSend H) where
   live_send : IsSend (Live.the_field H).row
   live_send = let a = sub_send in search sendable depth 20
 
   rows_send : IsSend (Rows.the_row H)
-  rows_send = let l = live_send in let r = longest_send in search (sendable, Vec-send) depth 20
+  rows_send = let l = live_send in let n = notes_send in search (sendable, Vec-send) depth 20
 
 room_send : IsSend PendingBlock.the_row
 room_send = let a = sub_send in search (sendable, Box-send) depth 20
