@@ -1,8 +1,8 @@
 -- Runs, spans and stretches of slots: what their numbers say of the marks.
-use Rattle.std.proofs.Common.{◌≡◌, ℕ, zero, suc, [], ◌∷◌, ◌++◌, refl, inl, inr, ◌+◌, ◌*◌, ◌/◌, ◌<◌, ◌≤◌, List, length, arith, slice_index_or}
-use Rattle.std.specs.Prelude.{slice_index}
-use Rattle.std.proofs.lemmas.Bool.{cases_lt}
-use Rattle.std.proofs.lemmas.List.{get_or_read, get_or_past}
+use Rattle.std.proofs.Common.{◌≡◌, ℕ, zero, suc, [], ◌∷◌, ◌++◌, refl, inl, inr, ◌∙◌, ap, slice_set, length-set, ◌+◌, ◌*◌, ◌/◌, ◌<◌, ◌≤◌, List, length, arith, slice_index_or}
+use Rattle.std.specs.Prelude.{slice_index, max}
+use Rattle.std.proofs.lemmas.Bool.{cases_eq, cases_lt}
+use Rattle.std.proofs.lemmas.List.{get_or_read, get_or_past, get_or-set_same, get_or-set_other}
 use Rattle.gpu_core.specs.Marks.{BoundRuns, AreWithin}
 
 -- a 0 behind all numbers is what is read there without it
@@ -55,3 +55,49 @@ low_stretch marks runs spans stretches stretch read least i b is low from to wit
     let number = get_or_read stretches stretch read (omega arith) is 0 in
     let span = b.of_spans.each stretch (i / 256) (omega arith) (omega arith) (omega arith) in
     under_span marks runs spans stretches (i / 256) least i b (omega arith) (omega arith) (omega arith) within
+
+-- ---- a mark is raised, and what is above it
+
+bound_set : (marks runs : List ℕ) (i run m n : ℕ) → BoundRuns marks runs → run ≡ i / 16 → i < length marks → m ≤ n → slice_index runs run ≤ n → BoundRuns (slice_set marks i m) (slice_set runs run n)
+bound_set marks runs i run m n b is below under kept =
+    let long = length-set marks i m in
+    let many = length-set runs run n in
+    let enough = b.enough in
+    let no_more = b.no_more in
+    let there : run < length runs = omega arith in
+    record {
+      enough = omega arith;
+      no_more = omega arith;
+      each = λ r j from to within. elim (cases_eq j i) [
+        | inl e ↦ (let same : r ≡ run = omega arith in
+            let mark : slice_index (slice_set marks i m) j ≡ m = ap (slice_index (slice_set marks i m)) e ∙ get_or-set_same marks i m 0 below in
+            let number : slice_index (slice_set runs run n) r ≡ n = ap (slice_index (slice_set runs run n)) same ∙ get_or-set_same runs run n 0 there in
+            omega arith)
+        | inr ne ↦ (let mark : slice_index (slice_set marks i m) j ≡ slice_index marks j = get_or-set_other marks i j m 0 ne in
+            let was = b.each r j from to (omega arith) in
+            elim (cases_eq r run) [
+              | inl same ↦ (let number : slice_index (slice_set runs run n) r ≡ n = ap (slice_index (slice_set runs run n)) same ∙ get_or-set_same runs run n 0 there in
+                  let old : slice_index runs r ≡ slice_index runs run = ap (slice_index runs) same in
+                  omega arith)
+              | inr other ↦ (let number : slice_index (slice_set runs run n) r ≡ slice_index runs r = get_or-set_other runs run r n 0 other in omega arith)
+            ])
+      ];
+    }
+
+pub within_raised : (marks runs spans stretches more longer most : List ℕ) (slot mark : ℕ) → AreWithin marks runs spans stretches → slot < length marks
+    → more ≡ slice_set runs (slot / 16) (max (slice_index runs (slot / 16)) mark)
+    → longer ≡ slice_set spans (slot / 16 / 16) (max (slice_index spans (slot / 16 / 16)) mark)
+    → most ≡ slice_set stretches (slot / 16 / 16 / 16) (max (slice_index stretches (slot / 16 / 16 / 16)) mark)
+    → AreWithin (slice_set marks slot mark) more longer most
+within_raised marks runs spans stretches more longer most slot mark b below e f h =
+    let enough = b.of_marks.enough in
+    let covered = b.of_runs.enough in
+    let run = b.of_runs.each (slot / 16 / 16) (slot / 16) (omega arith) (omega arith) (omega arith) in
+    let span = b.of_spans.each (slot / 16 / 16 / 16) (slot / 16 / 16) (omega arith) (omega arith) (omega arith) in
+    rw (e, f, h) (record {
+      of_marks = bound_set marks runs slot (slot / 16) mark (max (slice_index runs (slot / 16)) mark) b.of_marks refl below (omega arith) (omega arith);
+      of_runs = bound_set runs spans (slot / 16) (slot / 16 / 16) (max (slice_index runs (slot / 16)) mark) (max (slice_index spans (slot / 16 / 16)) mark) b.of_runs refl (omega arith) (omega arith)
+          (omega arith);
+      of_spans = bound_set spans stretches (slot / 16 / 16) (slot / 16 / 16 / 16) (max (slice_index spans (slot / 16 / 16)) mark) (max (slice_index stretches (slot / 16 / 16 / 16)) mark) b.of_spans refl
+          (omega arith) (omega arith) (omega arith);
+    })

@@ -79,23 +79,35 @@ impl Marks {
         cover(place / RUN / RUN, &mut self.stretches);
     }
 
-    /// Gives a slot another mark.
+    /// Notes a slot's mark.
     pub fn set(&mut self, slot: usize, mark: u64)
         requires { slot < length self.old.marks }
         ensures marks { self.new.marks ≡ slice_set self.old.marks slot mark }
         ensures room { self.new.room ≡ self.old.room }
     {
         // Mostly it is as it was: few calls fill or empty a slot.
-        if self.each[slot] == mark {
-            return;
+        if self.each[slot] != mark {
+            self.change(slot, mark);
         }
+    }
+
+    /// Gives a slot another mark.
+    fn change(&mut self, slot: usize, mark: u64)
+        requires { slot < length self.old.marks }
+        ensures marks { self.new.marks ≡ slice_set self.old.marks slot mark }
+        ensures room { self.new.room ≡ self.old.room }
+    {
         let run = slot / RUN;
         let span = run / RUN;
         let stretch = span / RUN;
+        let old = self.each[slot];
         self.each[slot] = mark;
-        let most = highest(&self.each, run * RUN);
-        if self.runs[run] != most {
-            self.runs[run] = most;
+        if mark > old {
+            raise(&mut self.runs, run, mark);
+            raise(&mut self.spans, span, mark);
+            raise(&mut self.stretches, stretch, mark);
+        } else if self.runs[run] == old {
+            self.runs[run] = highest(&self.each, run * RUN);
             self.spans[span] = highest(&self.runs, span * RUN);
             self.stretches[stretch] = highest(&self.spans, stretch * RUN);
         }
@@ -157,6 +169,16 @@ impl Marks {
     }
 }
 
+/// Raises a number where it is lower.
+fn raise(numbers: &mut Vec<u64>, place: usize, least: u64)
+    requires { place < length numbers.old.items }
+    ensures raised { numbers.new.items
+        ≡ slice_set numbers.old.items place (max (slice_index numbers.old.items place) least) }
+    ensures room { vec_capacity numbers.new ≡ vec_capacity numbers.old }
+{
+    numbers[place] = numbers[place].max(least);
+}
+
 /// Adds a run of number 0 where the number at a place is in none. It takes no memory.
 fn cover(place: usize, runs: &mut Vec<u64>)
     requires next { place ≤ 16 * length runs.old.items }
@@ -174,14 +196,14 @@ fn cover(place: usize, runs: &mut Vec<u64>)
 
 /// The highest number of the run that begins there.
 fn highest(numbers: &[u64], start: usize) -> u64
+    requires { start ≤ length numbers.now }
     ensures { (i : ℕ) → start ≤ i → i < start + 16 → i < length numbers.now
         → slice_index numbers.now i ≤ result }
 {
+    let end = numbers.len().min(start + RUN);
     let mut most = 0;
-    let mut place = start;
-    while place < numbers.len() && place - start < RUN {
-        most = most.max(numbers[place]);
-        place += 1;
+    for number in &numbers[start..end] {
+        most = most.max(*number);
     }
     most
 }
