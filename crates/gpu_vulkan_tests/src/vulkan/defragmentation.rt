@@ -4,6 +4,7 @@ mod refused;
 
 use super::*;
 use gpu_defragment::{Defragmentation, Finished, Move};
+use gpu_values::AllocationError;
 
 /// A piece that fills half a block.
 fn half() -> AllocationCreateDesc<'static> {
@@ -106,27 +107,22 @@ fn moves_stay_open_until_they_end(rt: HostRuntime) {
     check(&rt, &[done]);
 }
 
-/// A null allocation is no second place's owner: it comes back, and so does a move of one that isn't live.
-fn dead_ones_come_back(a: &mut Allocator<SimVulkan>, d: &mut Defragmentation) -> bool {
+/// Proposes a move of a null allocation, which no request is for: whether it comes back.
+fn a_null_one_comes_back(a: &mut Allocator<SimVulkan>, d: &mut Defragmentation) -> bool {
     let began = d.begin_frame(2 * MB, 1).is_ok();
-    let refused = match d.propose(a, Allocation::default(), &half()) {
-        Err((error, none)) => {
-            matches!(
-                error,
-                gpu_values::AllocationError::InvalidAllocationCreateDesc
-            ) && place(&none).2 == None
-        }
-        Ok(_) => false,
+    let back = match d.propose(a, Allocation::default(), &half()) {
+        Err((AllocationError::InvalidAllocationCreateDesc, none)) => !a.is_live(&none),
+        _ => false,
     };
-    began && refused && d.open().len() == 0
+    began && back && d.open().len() == 0
 }
 
 #[test]
-fn a_dead_allocation_comes_back(rt: HostRuntime) {
+fn a_null_allocation_comes_back(rt: HostRuntime) {
     let done = match made(rt.alloc(), &with_types(&[HOST]), small()) {
         Some(mut a) => {
             let mut d = Defragmentation::new(rt.alloc());
-            let done = dead_ones_come_back(&mut a, &mut d);
+            let done = a_null_one_comes_back(&mut a, &mut d);
             let device = a.destroy(&Discard);
             done && device.held() == 0
         }

@@ -2,7 +2,6 @@
 
 use super::super::refused::{ends, take_again};
 use super::*;
-use gpu_values::AllocationError;
 use std::test::Fail;
 
 /// Begins a frame; where the host refused memory, none has begun, and it is asked for once more.
