@@ -4,6 +4,11 @@ use super::super::refused::{ends, take_again};
 use super::*;
 use std::test::Fail;
 
+/// A piece that fills half a block, and that the host reads: uploads are asked for again where the device lacks host memory.
+fn download() -> AllocationCreateDesc<'static> {
+    managed(2 * MB, 256, MemoryLocation::GpuToCpu)
+}
+
 /// Begins a frame; where the host refused memory, none has begun, and it is asked for once more.
 fn begin_again(d: &mut Defragmentation, refused: &mut u64) -> bool {
     match d.begin_frame(4 * MB, 2) {
@@ -22,7 +27,7 @@ fn opens(
     from: Allocation,
     refused: &mut u64,
 ) -> bool {
-    match d.propose(a, from, &half()) {
+    match d.propose(a, from, &download()) {
         Ok(stays) => stays.is_none(),
         Err((AllocationError::HostOutOfMemory, same)) => {
             *refused = refused.saturating_add(1);
@@ -34,9 +39,9 @@ fn opens(
 
 /// Two pieces fill the lower block and one lies in the upper one; the first moves beside it.
 fn moved(a: &mut Allocator<SimVulkan>, d: &mut Defragmentation, refused: &mut u64) -> Option<bool> {
-    let first = take_again(a, &half(), refused)?;
-    let second = take_again(a, &half(), refused)?;
-    let ahead = take_again(a, &half(), refused)?;
+    let first = take_again(a, &download(), refused)?;
+    let second = take_again(a, &download(), refused)?;
+    let ahead = take_again(a, &download(), refused)?;
     let began = begin_again(d, refused);
     let opened = opens(d, a, first, refused);
     let done = finished(a, d.take(0)?)?;
