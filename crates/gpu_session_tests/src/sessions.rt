@@ -140,10 +140,10 @@ fn upload(name: &str) -> Piece<'_> {
     }
 }
 
-/// So many megabytes.
-fn megabytes(count: u64) -> Piece<'static> {
+/// So many bytes, anywhere in a block.
+fn large(size: u64) -> Piece<'static> {
     Piece {
-        size: count * MB,
+        size,
         alignment: 1,
         location: MemoryLocation::CpuToGpu,
         name: "large",
@@ -154,17 +154,17 @@ fn megabytes(count: u64) -> Piece<'static> {
 /// there and 1 has none. With 3 and 1 gone, the block in slot 0 goes.
 fn moves(alloc: Global) -> std::result::Result<Vec<Command>, AllocError> {
     let calls = [
-        Call::Take(1, megabytes(3)),
-        Call::Take(2, megabytes(2)),
-        Call::Take(4, megabytes(2)),
-        Call::Take(3, megabytes(1)),
-        Call::Move(3, 5, megabytes(1)),
+        Call::Take(1, large(3 * MB)),
+        Call::Take(2, large(2 * MB)),
+        Call::Take(4, large(2 * MB)),
+        Call::Take(3, large(MB)),
+        Call::Move(3, 5, large(MB)),
         Call::Free(4),
-        Call::Move(1, 5, megabytes(3)),
-        Call::Move(3, 2, megabytes(1)),
-        Call::Move(6, 5, megabytes(1)),
-        Call::Move(3, 5, megabytes(2)),
-        Call::Move(3, 5, megabytes(1)),
+        Call::Move(1, 5, large(3 * MB)),
+        Call::Move(3, 2, large(MB)),
+        Call::Move(6, 5, large(MB)),
+        Call::Move(3, 5, large(2 * MB)),
+        Call::Move(3, 5, large(MB)),
         Call::Free(3),
         Call::Free(1),
         Call::Capacity,
