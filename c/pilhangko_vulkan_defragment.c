@@ -108,20 +108,17 @@ static size_t gather(const pilhangko_vulkan_defragmentation *it, const struct na
     return found;
 }
 
-/* Proposes a move, if it keeps within the bytes that are left, and opens it. */
+/* Proposes a move within the bytes that are left, and opens it. */
 static pilhangko_status propose_one(pilhangko_vulkan *vulkan, pilhangko_vulkan_defragmentation *it, const pilhangko_vulkan_movable *movable,
     VkDeviceSize *bytes, bool *moves) {
     struct pilhangko_vulkan_open_move *move;
     pilhangko_status status;
-    *moves = false;
-    if (movable->request.requirements.size > *bytes) return PILHANGKO_OK;
     if (!has_room(it)) return PILHANGKO_HOST_OUT_OF_MEMORY;
     move = &it->open_moves[it->open];
-    status = pilhangko_vulkan_propose_move(vulkan, &movable->allocation, &movable->request, moves, &move->to);
+    status = propose_within(vulkan, movable, bytes, moves, &move->to);
     if (status != PILHANGKO_OK || !*moves) return status;
     move->from = movable->allocation;
     it->open++;
-    *bytes -= move->to.size;
     return PILHANGKO_OK;
 }
 
@@ -174,9 +171,12 @@ pilhangko_status PILHANGKO_CALL pilhangko_vulkan_defragmentation_propose(pilhang
     }
     free(candidates);
     free(names);
-    if (status != PILHANGKO_OK) abandon_rest(vulkan, it, before);
-    if (status == PILHANGKO_OK) *proposed = it->open - before;
-    if (status == PILHANGKO_OK) it->done = it->open == 0;
+    if (status == PILHANGKO_OK) {
+        *proposed = it->open - before;
+        it->done = it->open == 0;
+    } else {
+        abandon_rest(vulkan, it, before);
+    }
     it->binding = vulkan->opaque;
     drop_empty_list(it);
     return status;

@@ -37,17 +37,6 @@ pilhangko_vulkan_result PILHANGKO_CALL pilhangko_vulkan_move_mapped(
     return result;
 }
 
-/* Proposes a move, if it keeps within the bytes that are left. */
-static pilhangko_status propose_within(
-    pilhangko_vulkan *vulkan, const pilhangko_vulkan_movable *it, VkDeviceSize *bytes, bool *moves, pilhangko_vulkan_allocation *to) {
-    pilhangko_status status;
-    *moves = false;
-    if (it->request.requirements.size > *bytes) return PILHANGKO_OK;
-    status = pilhangko_vulkan_propose_move(vulkan, &it->allocation, &it->request, moves, to);
-    if (status == PILHANGKO_OK && *moves) *bytes -= to->size;
-    return status;
-}
-
 /* The lowest slot from one on in which an allocation of the table lies; SIZE_MAX where none does. */
 static size_t next_slot(const pilhangko_vulkan_movable *movables, size_t count, size_t from) {
     size_t lowest = SIZE_MAX;

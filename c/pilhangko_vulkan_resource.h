@@ -1,5 +1,5 @@
-/* What the files of Pilhangko's Vulkan binding share: results, a free that counts, and the driver's calls for a buffer or an image. Not for its
- * users. */
+/* What the files of Pilhangko's Vulkan binding share: results, a free that counts, a move within a frame's bytes, and the driver's calls for a
+ * buffer or an image. Not for its users. */
 #ifndef PILHANGKO_VULKAN_RESOURCE_H
 #define PILHANGKO_VULKAN_RESOURCE_H
 
@@ -26,6 +26,17 @@ pilhangko_status PILHANGKO_CALL pilhangko_vulkan_free_counted(
 #ifdef __cplusplus
 }
 #endif
+
+/* Proposes a move, if it keeps within the bytes that are left. */
+static inline pilhangko_status propose_within(
+    pilhangko_vulkan *vulkan, const pilhangko_vulkan_movable *it, VkDeviceSize *bytes, bool *moves, pilhangko_vulkan_allocation *to) {
+    pilhangko_status status;
+    *moves = false;
+    if (it->request.requirements.size > *bytes) return PILHANGKO_OK;
+    status = pilhangko_vulkan_propose_move(vulkan, &it->allocation, &it->request, moves, to);
+    if (status == PILHANGKO_OK && *moves) *bytes -= to->size;
+    return status;
+}
 
 /* A buffer or an image: the other one is null. */
 struct resource {

@@ -154,8 +154,7 @@ PILHANGKO_NODISCARD PILHANGKO_API pilhangko_status PILHANGKO_CALL pilhangko_d3d1
  * allocation, if that lies in a heap that is looked at before its own. *moves says whether there is one, and *to is the allocation there, with
  * the first one's word; nothing is asked of the device. Then both are live: make the resource anew at the second
  * (pilhangko_d3d12_place_resource), copy, and free the first once the device has finished, which ends the move; or free the second, which
- * abandons it. Where *moves is false the allocation stays where it is, and *to as it was. In a capture a second place is an allocation by this
- * request.
+ * abandons it. Where *moves is false the allocation stays where it is, and *to as it was.
  * NULL_POINTER. NO_HANDLE. NOT_LIVE: also of a committed resource, which stays. HOST_OUT_OF_MEMORY: the binding's own. INVALID: the request, its
  * name, or a size that isn't the allocation's. HOST_OUT_OF_MEMORY. */
 PILHANGKO_NODISCARD PILHANGKO_API pilhangko_status PILHANGKO_CALL pilhangko_d3d12_propose_move(pilhangko_d3d12 *d3d12,

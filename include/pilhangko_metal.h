@@ -150,7 +150,7 @@ PILHANGKO_NODISCARD PILHANGKO_API pilhangko_status PILHANGKO_CALL pilhangko_meta
  * allocation, if that lies in a heap that is looked at before its own. *moves says whether there is one, and *to is the allocation there, with
  * the first one's word; nothing is asked of the device. Then both are live: make the resource anew at the second, by its heap, copy, and free
  * the first once the device has finished, which ends the move; or free the second, which abandons it. Where *moves is false the allocation stays
- * where it is, and *to as it was. In a capture a second place is an allocation by this request.
+ * where it is, and *to as it was.
  * NULL_POINTER. NO_HANDLE. NOT_LIVE. HOST_OUT_OF_MEMORY: the binding's own. INVALID: the request, its name, or a size that isn't the
  * allocation's. HOST_OUT_OF_MEMORY. */
 PILHANGKO_NODISCARD PILHANGKO_API pilhangko_status PILHANGKO_CALL pilhangko_metal_propose_move(pilhangko_metal *metal,

@@ -200,7 +200,7 @@ PILHANGKO_NODISCARD PILHANGKO_API pilhangko_vulkan_result PILHANGKO_CALL pilhang
  * the first one's word; nothing is asked of the driver. Then both are live: bind a new buffer or image at the second
  * (pilhangko_vulkan_create_aliasing_buffer), copy, and destroy the old one with the first once the device has finished, which ends the move; or
  * free the second, which abandons it. Where *moves is false the allocation stays where it is, and *to as it was. An allocation for one buffer or
- * image alone stays (INVALID). In a capture a second place is an allocation of its memory type.
+ * image alone stays (INVALID).
  * NULL_POINTER. NO_HANDLE. NOT_LIVE. INVALID: a null buffer or image that counts. HOST_OUT_OF_MEMORY: the binding's own. INVALID: the request,
  * its name, or a size that isn't the allocation's. HOST_OUT_OF_MEMORY. */
 PILHANGKO_NODISCARD PILHANGKO_API pilhangko_status PILHANGKO_CALL pilhangko_vulkan_propose_move(pilhangko_vulkan *vulkan,

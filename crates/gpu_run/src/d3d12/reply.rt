@@ -47,7 +47,7 @@ pub enum Reply {
     Committed(Option<CommittedAllocationStatistics>),
     /// No block ahead of the allocation's has a second place.
     NoPlace,
-    /// The number, of a second place its own, stands for something already.
+    /// The number that was to be bound stands for something already.
     Busy,
     /// The number stands for nothing.
     Unbound,

@@ -31,7 +31,7 @@ pub enum Reply {
     Capacity(u64),
     /// No block ahead of the allocation's has a second place.
     NoPlace,
-    /// The number, of a second place its own, stands for an allocation already.
+    /// The number that was to be bound stands for an allocation already.
     Busy,
     /// The number stands for nothing.
     Unbound,

@@ -18,7 +18,7 @@ pub struct Allocated {
     pub mapped: bool,
 }
 
-/// The reply to a command. Any but `Done` of `Free`, `Write` and `SetBudget`, `Capacity`, `Busy`, `Unbound`, `NoPlace`, `Unmapped` and
+/// The reply to a command. Any but `Done` of `Free`, `Write` and `SetBudget`, `Capacity`, `Busy`, `Unbound`, `Unmapped` and
 /// `OutOfRange` may in its place be `Error(HostOutOfMemory)`; then the command changed nothing but what the device counts of questions that it
 /// was asked before.
 #[derive(Drop)]
@@ -33,7 +33,7 @@ pub enum Reply {
     Leaks(Vec<String>),
     /// The sum of the sizes of the live blocks, in bytes.
     Capacity(u64),
-    /// The number, of a second place its own, stands for an allocation already.
+    /// The number that was to be bound stands for an allocation already.
     Busy,
     /// The number stands for nothing.
     Unbound,
