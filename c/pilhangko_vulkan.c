@@ -1,7 +1,7 @@
 /* Pilhangko's Vulkan binding (include/pilhangko_vulkan.h): compile it with the program, as C11 or as C++11. It asks the driver what the
  * allocator wants to know; the allocator decides all else, and keeps what it decided. */
 #include "pilhangko_vulkan_resource.h"
-#include "pilhangko_capture.h"
+#include "pilhangko_vulkan_capture.h"
 #include "pilhangko_shared.h"
 
 /* ---- records ---- */
@@ -12,6 +12,13 @@ struct live {
     uint64_t serial; /* 0 of a spare record */
     pilhangko_allocator_piece piece;
     uint64_t user_data;
+};
+
+/* What the allocator is asked for, and the chain that goes with the questions to the driver. */
+struct wanted {
+    pilhangko_allocator_request asks;
+    const void *next;
+    const char *name;
 };
 
 struct binding {
@@ -59,104 +66,29 @@ static const struct live *find(const struct binding *b, const pilhangko_vulkan_a
 
 /* ---- captures ---- */
 
-/* What a call asked the driver, in the trace's terms: how many questions, and which of them it refused. */
-struct asked {
-    uint64_t questions;
-    unsigned refusals;
-    struct {
-        uint64_t question;
-        bool is_null;
-        int32_t code;
-    } refused[2];    /* one for each attempt */
-    VkResult driver; /* the last code of a refusal */
-};
-
 static bool is_captured(const struct binding *b) {
     return goes_on(&b->capture);
 }
 
-/* The device's lines. Each is written by itself, so that LINE_ROOM is enough. */
-static void capture_device(struct binding *b, const pilhangko_allocator_settings *s) {
-    const VkPhysicalDeviceMemoryProperties *p = &b->properties;
-    char line[LINE_ROOM];
-    for (uint32_t i = 0; i < p->memoryHeapCount && is_captured(b); i++) {
-        snprintf(line, sizeof line, "heap %" PRIu64 "\n", (uint64_t)p->memoryHeaps[i].size);
-        capture_lines(&b->capture, line, "");
-    }
-    for (uint32_t i = 0; i < p->memoryTypeCount && is_captured(b); i++) {
-        snprintf(
-            line, sizeof line, "type %" PRIu32 " %" PRIu32 "\n", (uint32_t)p->memoryTypes[i].propertyFlags, p->memoryTypes[i].heapIndex);
-        capture_lines(&b->capture, line, "");
-    }
-    snprintf(line, sizeof line, "granularity %" PRIu64 "\nsizes %" PRIu64 " %" PRIu64 " %" PRIu64 " %" PRIu64 "\n", s->page_size,
-        s->device_block_size, s->host_block_size, s->largest_device_block_size, s->largest_host_block_size);
-    if (is_captured(b)) capture_lines(&b->capture, line, "");
-    if (!is_captured(b)) forget_text(&b->capture.device); /* half a device is none */
-}
-
-static void trace_scheme(const pilhangko_allocator_request *request, char *word, size_t room) {
-    if (request->scheme == PILHANGKO_SCHEME_MANAGED) snprintf(word, room, "managed");
-    else snprintf(word, room, "%s:%" PRIu64, request->scheme == PILHANGKO_SCHEME_BUFFER ? "buffer" : "image", request->resource);
-}
-
-static void trace_refusals(const struct capture *c, const struct asked *asked, char *lines, size_t room) {
-    size_t length = 0;
-    lines[0] = 0;
-    for (unsigned i = 0; i < asked->refusals; i++)
-        length += trace_refusal(lines + length, room - length, c->questions + asked->refused[i].question, asked->refused[i].is_null,
-            asked->refused[i].code);
-}
-
-/* The bounds as they are now, where they are others than those that were written last. Bounds count where something is allocated: one that
- * was changed again before that isn't written. */
-static void capture_new_budgets(struct binding *b) {
-    if (!b->capture.has_new_budgets) return;
-    b->capture.has_new_budgets = false;
-    for (uint32_t i = 0; i < b->properties.memoryTypeCount && is_captured(b); i++) {
-        pilhangko_budget now;
-        if (pilhangko_allocator_budget(&b->allocator, i, &now) != PILHANGKO_OK) return;
-        capture_budget(&b->capture, i, &now);
-    }
-}
-
-/* A request in a trace's words. */
-static const char *trace_request(const pilhangko_allocator_request *request, const char *name, char *words, size_t room) {
-    char scheme[32], word[NAME_ROOM + 1];
-    trace_scheme(request, scheme, sizeof scheme);
-    snprintf(words, room, "%" PRIu64 " %" PRIu64 " %" PRIu32 " %s %s %s %s", request->size, request->alignment, request->memory_type_bits,
-        trace_location(request->location), request->kind == PILHANGKO_KIND_LINEAR ? "linear" : "nonlinear", scheme, trace_name(name, word));
-    return words;
-}
-
-/* The call `allocate`: what it asked for, and what the driver refused. Where host memory was lacking, nothing has changed, and in a replay
- * nothing is lacking; an invalid request may have words that no trace has. An allocation is called by its serial number; one that was
- * refused by the next one's. */
-static void capture_allocation(
-    struct binding *b, const pilhangko_allocator_request *request, const char *name, pilhangko_status status, const struct asked *asked) {
-    char lines[LINE_ROOM], refusals[LINE_ROOM], words[REQUEST_ROOM];
+/* The call `allocate`. An allocation is called by its serial number; one that was refused by the next one's. */
+static void capture_call(struct binding *b, const struct wanted *wanted, pilhangko_status status, const struct asked *asked) {
     if (!is_captured(b) || status == PILHANGKO_HOST_OUT_OF_MEMORY || status == PILHANGKO_INVALID) return;
-    capture_new_budgets(b);
-    if (!is_captured(b)) return;
-    trace_refusals(&b->capture, asked, refusals, sizeof refusals);
-    snprintf(lines, sizeof lines, "alloc %" PRIu64 " %s\n", b->last_serial + 1, trace_request(request, name, words, sizeof words));
-    capture_lines(&b->capture, refusals, lines);
-    b->capture.questions += asked->questions;
+    capture_new_budgets(&b->capture, &b->allocator, b->properties.memoryTypeCount);
+    capture_allocation(&b->capture, b->last_serial + 1, &wanted->asks, wanted->name, asked);
 }
 
 /* The call `propose_move` of the allocation with this serial number, whether there was a second place or none. */
-static void capture_move(struct binding *b, uint64_t from, const pilhangko_allocator_request *request, const char *name) {
-    char line[LINE_ROOM], words[REQUEST_ROOM];
-    if (is_captured(b)) capture_new_budgets(b);
+static void capture_proposal(struct binding *b, uint64_t from, const struct wanted *wanted) {
     if (!is_captured(b)) return;
-    snprintf(line, sizeof line, "move %" PRIu64 " %" PRIu64 " %s\n", from, b->last_serial + 1, trace_request(request, name, words, sizeof words));
-    capture_lines(&b->capture, "", line);
+    capture_new_budgets(&b->capture, &b->allocator, b->properties.memoryTypeCount);
+    capture_move(&b->capture, from, b->last_serial + 1, &wanted->asks, wanted->name);
 }
 
 /* Writes the capture with a last line, and forgets it. */
 static pilhangko_vulkan_capture end_capture(struct binding *b, const char *last_line) {
     struct capture_told ended;
     pilhangko_vulkan_capture told;
-    if (is_captured(b)) capture_new_budgets(b);
+    capture_new_budgets(&b->capture, &b->allocator, b->properties.memoryTypeCount);
     ended = finish_capture(&b->capture, last_line);
     told.end = (pilhangko_vulkan_capture_end)ended.end;
     told.bytes = ended.bytes;
@@ -165,40 +97,42 @@ static pilhangko_vulkan_capture end_capture(struct binding *b, const char *last_
 
 /* ---- asking the driver ---- */
 
-/* Asks for memory, for the resource alone that the request names, if it names one. */
-static VkResult ask_memory(const struct binding *b, const pilhangko_allocator_request *request,
-    const pilhangko_allocator_question *question, VkDeviceMemory *memory) {
+/* Whether a chain has a struct of this type. */
+static bool has_struct(const void *chain, VkStructureType type) {
+    for (const VkBaseInStructure *it = (const VkBaseInStructure *)chain; it; it = it->pNext)
+        if (it->sType == type) return true;
+    return false;
+}
+
+/* Asks for memory: for the resource alone that the request names, if it names one, and with the request's chain. A struct that is in the
+ * chain counts in place of the binding's own. */
+static VkResult ask_memory(
+    const struct binding *b, const struct wanted *wanted, const pilhangko_allocator_question *question, VkDeviceMemory *memory) {
     VkMemoryAllocateInfo info;
     VkMemoryDedicatedAllocateInfo alone;
     VkMemoryAllocateFlagsInfo flags;
     memset(&info, 0, sizeof info);
     info.sType = VK_STRUCTURE_TYPE_MEMORY_ALLOCATE_INFO;
+    info.pNext = wanted->next;
     info.allocationSize = question->size;
     info.memoryTypeIndex = (uint32_t)question->memory_type;
-    if (request->scheme != PILHANGKO_SCHEME_MANAGED && b->over.api_version >= VK_API_VERSION_1_1) {
-        memset(&alone, 0, sizeof alone);
-        alone.sType = VK_STRUCTURE_TYPE_MEMORY_DEDICATED_ALLOCATE_INFO;
-        if (request->scheme == PILHANGKO_SCHEME_BUFFER) alone.buffer = (VkBuffer)request->resource;
-        else alone.image = (VkImage)request->resource;
+    memset(&alone, 0, sizeof alone);
+    alone.sType = VK_STRUCTURE_TYPE_MEMORY_DEDICATED_ALLOCATE_INFO;
+    if (wanted->asks.scheme == PILHANGKO_SCHEME_BUFFER) alone.buffer = (VkBuffer)wanted->asks.resource;
+    else alone.image = (VkImage)wanted->asks.resource;
+    if (wanted->asks.resource != 0 && b->over.api_version >= VK_API_VERSION_1_1 && !has_struct(wanted->next, alone.sType)) {
+        alone.pNext = info.pNext;
         info.pNext = &alone;
     }
-    if (b->device_address) {
-        memset(&flags, 0, sizeof flags);
-        flags.sType = VK_STRUCTURE_TYPE_MEMORY_ALLOCATE_FLAGS_INFO;
+    memset(&flags, 0, sizeof flags);
+    flags.sType = VK_STRUCTURE_TYPE_MEMORY_ALLOCATE_FLAGS_INFO;
+    flags.flags = VK_MEMORY_ALLOCATE_DEVICE_ADDRESS_BIT;
+    if (b->device_address && !has_struct(wanted->next, flags.sType)) {
         flags.pNext = info.pNext;
-        flags.flags = VK_MEMORY_ALLOCATE_DEVICE_ADDRESS_BIT;
         info.pNext = &flags;
     }
     *memory = VK_NULL_HANDLE;
     return b->functions.vkAllocateMemory(b->over.device, &info, b->over.allocation_callbacks, memory);
-}
-
-static void note_refusal(struct asked *asked, bool is_null, int32_t code, VkResult driver) {
-    asked->refused[asked->refusals].question = asked->questions;
-    asked->refused[asked->refusals].is_null = is_null;
-    asked->refused[asked->refusals].code = code;
-    asked->refusals++;
-    if (driver != VK_SUCCESS) asked->driver = driver;
 }
 
 static pilhangko_status memory_refused(
@@ -219,11 +153,11 @@ static pilhangko_status mapping_refused(
 
 /* Asks the driver the question that is open, and tells the answer. */
 static pilhangko_status ask(
-    struct binding *b, const pilhangko_allocator_request *request, struct asked *asked, pilhangko_allocator_progress *progress) {
+    struct binding *b, const struct wanted *wanted, struct asked *asked, pilhangko_allocator_progress *progress) {
     const pilhangko_allocator_question question = progress->question;
     void *mapped = NULL;
     VkDeviceMemory memory;
-    VkResult driver = ask_memory(b, request, &question, &memory);
+    VkResult driver = ask_memory(b, wanted, &question, &memory);
     asked->questions++;
     if (driver != VK_SUCCESS || memory == VK_NULL_HANDLE) return memory_refused(b, asked, driver, memory, progress);
     if (question.mapped) {
@@ -245,16 +179,27 @@ static bool may_need_flushes(const struct binding *b, uint32_t bits) {
     return false;
 }
 
-/* What the allocator is asked for. */
-static pilhangko_status asks_for(const struct binding *b, const pilhangko_vulkan_request *request, pilhangko_allocator_request *asks) {
+/* The greater of two alignments, where the second isn't 0, which is none. 0, which the allocator refuses, where one is no power of two. */
+static VkDeviceSize greater_alignment(VkDeviceSize needed, VkDeviceSize wanted) {
+    if (wanted == 0) return needed;
+    if (!is_power_of_two(needed) || !is_power_of_two(wanted)) return 0;
+    return needed > wanted ? needed : wanted;
+}
+
+/* What the allocator is asked for. Memory with a chain is a piece's own: for a buffer alone that isn't named, where no resource is. */
+static pilhangko_status asks_for(const struct binding *b, const pilhangko_vulkan_request *request, struct wanted *wanted) {
     const bool for_buffer = request->scheme == PILHANGKO_SCHEME_BUFFER, for_image = request->scheme == PILHANGKO_SCHEME_IMAGE;
+    pilhangko_allocator_request *asks = &wanted->asks;
     if ((for_buffer && request->buffer == VK_NULL_HANDLE) || (for_image && request->image == VK_NULL_HANDLE)) return PILHANGKO_INVALID;
+    wanted->next = request->next;
+    wanted->name = request->name;
     asks->size = request->requirements.size;
-    asks->alignment = request->requirements.alignment;
+    asks->alignment = greater_alignment(request->requirements.alignment, request->minimal_alignment);
     asks->memory_type_bits = request->requirements.memoryTypeBits;
+    if (request->memory_type_bits != 0) asks->memory_type_bits &= request->memory_type_bits;
     asks->kind = request->kind;
     asks->location = request->location;
-    asks->scheme = request->scheme;
+    asks->scheme = request->next && request->scheme == PILHANGKO_SCHEME_MANAGED ? PILHANGKO_SCHEME_BUFFER : request->scheme;
     asks->resource = for_buffer ? (uint64_t)request->buffer : for_image ? (uint64_t)request->image : 0;
     if (asks->alignment < b->atom && is_power_of_two(asks->alignment) && may_need_flushes(b, asks->memory_type_bits))
         asks->alignment = b->atom;
@@ -282,20 +227,20 @@ static void keep_allocation(
 
 static pilhangko_vulkan_result allocate_alone(
     struct binding *b, const pilhangko_vulkan_request *request, pilhangko_vulkan_allocation *allocation) {
-    pilhangko_allocator_request asks;
+    struct wanted wanted;
     pilhangko_allocator_progress progress;
     struct asked asked;
-    pilhangko_status status = asks_for(b, request, &asks);
+    pilhangko_status status = asks_for(b, request, &wanted);
     if (status != PILHANGKO_OK) return undriven(status);
     /* before the driver is asked, so that nothing can fail behind its grant */
     if (!has_spare(&b->live)) return undriven(PILHANGKO_HOST_OUT_OF_MEMORY);
     memset(&asked, 0, sizeof asked);
-    status = pilhangko_allocator_begin(&b->allocator, &asks, request->name, &progress);
-    while (status == PILHANGKO_OK && progress.kind == PILHANGKO_PROGRESS_QUESTION) status = ask(b, &asks, &asked, &progress);
+    status = pilhangko_allocator_begin(&b->allocator, &wanted.asks, wanted.name, &progress);
+    while (status == PILHANGKO_OK && progress.kind == PILHANGKO_PROGRESS_QUESTION) status = ask(b, &wanted, &asked, &progress);
     if (status == PILHANGKO_OK) status = progress.status;
-    capture_allocation(b, &asks, request->name, status, &asked);
+    capture_call(b, &wanted, status, &asked);
     if (status != PILHANGKO_OK) return result_of(status, asked.driver);
-    keep_allocation(b, &progress.piece, asks.scheme != PILHANGKO_SCHEME_MANAGED, allocation);
+    keep_allocation(b, &progress.piece, wanted.asks.scheme != PILHANGKO_SCHEME_MANAGED, allocation);
     return undriven(PILHANGKO_OK);
 }
 
@@ -350,17 +295,17 @@ static pilhangko_status propose_alone(struct binding *b, const pilhangko_vulkan_
     bool *moves, pilhangko_vulkan_allocation *to) {
     const struct live *it = find(b, from);
     struct live first;
-    pilhangko_allocator_request asks;
+    struct wanted wanted;
     pilhangko_allocator_piece place;
     pilhangko_status status;
     if (!it) return PILHANGKO_NOT_LIVE;
     first = *it; /* the record may lie elsewhere behind has_spare */
-    status = asks_for(b, request, &asks);
+    status = asks_for(b, request, &wanted);
     if (status != PILHANGKO_OK) return status;
     if (!has_spare(&b->live)) return PILHANGKO_HOST_OUT_OF_MEMORY;
-    status = pilhangko_allocator_propose_move(&b->allocator, &first.piece, &asks, request->name, moves, &place);
+    status = pilhangko_allocator_propose_move(&b->allocator, &first.piece, &wanted.asks, wanted.name, moves, &place);
     if (status != PILHANGKO_OK) return status;
-    capture_move(b, first.serial, &asks, request->name);
+    capture_proposal(b, first.serial, &wanted);
     if (!*moves) return PILHANGKO_OK;
     keep_allocation(b, &place, false, to);
     ((struct live *)record_of(&b->live, to->index))->user_data = first.user_data;
@@ -640,7 +585,7 @@ static pilhangko_vulkan_result allocate_for(struct binding *b, const struct reso
     bool may_share;
     memset(&request, 0, sizeof request);
     alone = requirements_of(&b->over, r, &request.requirements);
-    may_share = !placement->dedicated && !alone.requiresDedicatedAllocation;
+    may_share = !placement->dedicated && !placement->next && !alone.requiresDedicatedAllocation;
     request.location = placement->location;
     request.kind = kind;
     request.scheme = is_image(r) ? PILHANGKO_SCHEME_IMAGE : PILHANGKO_SCHEME_BUFFER;
@@ -648,6 +593,9 @@ static pilhangko_vulkan_result allocate_for(struct binding *b, const struct reso
     request.buffer = r->buffer;
     request.image = r->image;
     request.name = placement->name;
+    request.minimal_alignment = placement->minimal_alignment;
+    request.memory_type_bits = placement->memory_type_bits;
+    request.next = placement->next;
     first = allocate(b, &request, allocation);
     if (first.status == PILHANGKO_OK || first.status == PILHANGKO_HOST_OUT_OF_MEMORY) return first;
     if (!may_share || request.scheme == PILHANGKO_SCHEME_MANAGED) return first;
@@ -946,7 +894,7 @@ static pilhangko_status begin_binding(struct binding *b, const pilhangko_vulkan_
     s = allocator_settings(settings, device.limits.bufferImageGranularity);
     if (!is_power_of_two(b->atom)) return PILHANGKO_VULKAN_INVALID_ATOM_SIZE;
     status = create_allocator(b, &s);
-    if (status == PILHANGKO_OK && is_captured(b)) capture_device(b, &s);
+    if (status == PILHANGKO_OK && is_captured(b)) capture_device(&b->capture, &b->properties, &s);
     return status;
 }
 

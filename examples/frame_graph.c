@@ -314,8 +314,8 @@ static void run_frame(VkImage before, VkBuffer readback, const pilhangko_vulkan_
 int main(void) {
     pilhangko_vulkan_allocation memory, kept;
     pilhangko_vulkan_ending ending;
-    const pilhangko_vulkan_placement alone = {PILHANGKO_LOCATION_GPU_ONLY, false, "history"};
-    const pilhangko_vulkan_placement host = {PILHANGKO_LOCATION_GPU_TO_CPU, false, "readback"};
+    const pilhangko_vulkan_placement alone = {.location = PILHANGKO_LOCATION_GPU_ONLY, .name = "history"};
+    const pilhangko_vulkan_placement host = {.location = PILHANGKO_LOCATION_GPU_TO_CPU, .name = "readback"};
     VkBuffer readback;
     VkImage before;
     make_gpu(&gpu);

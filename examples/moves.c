@@ -85,7 +85,7 @@ static VkImageCreateInfo image_info(const struct resource *r) {
 
 /* A third are images. Sizes are odd, and the same on each run. */
 static void make(unsigned i) {
-    const pilhangko_vulkan_placement placement = {PILHANGKO_LOCATION_GPU_ONLY, false, i % 3 == 0 ? "texture" : "vertices"};
+    const pilhangko_vulkan_placement placement = {.location = PILHANGKO_LOCATION_GPU_ONLY, .name = i % 3 == 0 ? "texture" : "vertices"};
     struct resource *r = &resources[i];
     if (i % 3 == 0) {
         const VkExtent3D extent = {64 + i * 7 % 256, 64 + i * 11 % 256, 1};
@@ -188,7 +188,7 @@ static void move_for_a_frame(pilhangko_vulkan_defragmentation *it) {
 
 /* Whether each word of a resource is its own. */
 static void compare(const struct resource *r) {
-    const pilhangko_vulkan_placement placement = {PILHANGKO_LOCATION_GPU_TO_CPU, false, "readback"};
+    const pilhangko_vulkan_placement placement = {.location = PILHANGKO_LOCATION_GPU_TO_CPU, .name = "readback"};
     const VkBufferCreateInfo info = buffer_info(r);
     const VkBufferImageCopy texels = {.imageSubresource = {VK_IMAGE_ASPECT_COLOR_BIT, 0, 0, 1}, .imageExtent = r->extent};
     const VkBufferCopy bytes = {0, 0, r->bytes};

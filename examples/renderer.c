@@ -27,7 +27,7 @@ static void check(pilhangko_status status) {
 static void make_buffer(struct resource *r, VkDeviceSize bytes, pilhangko_location location, bool dedicated, const char *name) {
     const VkBufferCreateInfo info = {.sType = VK_STRUCTURE_TYPE_BUFFER_CREATE_INFO, .size = r->bytes = bytes,
         .usage = VK_BUFFER_USAGE_TRANSFER_SRC_BIT | VK_BUFFER_USAGE_TRANSFER_DST_BIT};
-    const pilhangko_vulkan_placement placement = {location, dedicated, name};
+    const pilhangko_vulkan_placement placement = {.location = location, .dedicated = dedicated, .name = name};
     check(pilhangko_vulkan_create_buffer(&vulkan, &info, &placement, &r->buffer, &r->allocation).status);
     reply_place(&r->allocation);
 }
@@ -36,7 +36,7 @@ static void make_image(struct resource *r, uint32_t width, uint32_t height, cons
     const VkImageCreateInfo info = {.sType = VK_STRUCTURE_TYPE_IMAGE_CREATE_INFO, .imageType = VK_IMAGE_TYPE_2D,
         .format = VK_FORMAT_R8G8B8A8_UNORM, .extent = {width, height, 1}, .mipLevels = 1, .arrayLayers = 1,
         .samples = VK_SAMPLE_COUNT_1_BIT, .usage = VK_IMAGE_USAGE_TRANSFER_SRC_BIT | VK_IMAGE_USAGE_TRANSFER_DST_BIT};
-    const pilhangko_vulkan_placement placement = {PILHANGKO_LOCATION_GPU_ONLY, false, name};
+    const pilhangko_vulkan_placement placement = {.location = PILHANGKO_LOCATION_GPU_ONLY, .name = name};
     check(pilhangko_vulkan_create_image(&vulkan, &info, &placement, &r->image, &r->allocation).status);
     reply_place(&r->allocation);
     r->extent = info.extent;

@@ -135,15 +135,22 @@ PILHANGKO_API pilhangko_status PILHANGKO_CALL pilhangko_vulkan_destroy(pilhangko
 
 /* ---- Memory ---- */
 
-/* What memory is wanted for. */
+/* What memory is wanted for. Zeros behind the name ask for nothing more.
+ *
+ * A request with a chain gets memory of its own, and the driver is asked for that with the chain behind the binding's own structs: a priority
+ * (VkMemoryPriorityAllocateInfoEXT), handle types for export (VkExportMemoryAllocateInfo), an import .. It is only read, while the call lasts.
+ * VkMemoryDedicatedAllocateInfo and VkMemoryAllocateFlagsInfo in it count in place of the binding's. */
 typedef struct pilhangko_vulkan_request {
     VkMemoryRequirements requirements;
     pilhangko_location location;
     pilhangko_kind kind;
-    pilhangko_scheme scheme; /* PILHANGKO_SCHEME_MANAGED, or memory for the buffer or the image alone */
-    VkBuffer buffer;         /* it counts where the scheme is PILHANGKO_SCHEME_BUFFER, and isn't null then */
-    VkImage image;           /* it counts where the scheme is PILHANGKO_SCHEME_IMAGE, and isn't null then */
-    const char *name;        /* copied; NULL for none */
+    pilhangko_scheme scheme;        /* PILHANGKO_SCHEME_MANAGED, or memory for the buffer or the image alone */
+    VkBuffer buffer;                /* it counts where the scheme is PILHANGKO_SCHEME_BUFFER, and isn't null then */
+    VkImage image;                  /* it counts where the scheme is PILHANGKO_SCHEME_IMAGE, and isn't null then */
+    const char *name;               /* copied; NULL for none */
+    VkDeviceSize minimal_alignment; /* a power of two, which counts where the requirements' is less; 0 for none */
+    uint32_t memory_type_bits;      /* those of the requirements' memory types that serve; 0 for all of them */
+    const void *next;               /* what is chained to VkMemoryAllocateInfo; NULL for nothing */
 } pilhangko_vulkan_request;
 
 /* An allocation: bind at offset of memory. The calls read the last three fields alone. One that was freed is refused for good
@@ -153,7 +160,7 @@ typedef struct pilhangko_vulkan_allocation {
     VkDeviceMemory memory;
     VkDeviceSize offset;
     VkDeviceSize size;
-    bool dedicated; /* whether the memory is for one buffer or image alone */
+    bool dedicated; /* whether memory of its own was asked for */
     pilhangko_allocator_piece piece;
     uint64_t owner;  /* which binding: 1, 2, .. as the process made them */
     uint64_t serial; /* which of its allocations: 1, 2, .. as they were made */
@@ -163,8 +170,8 @@ typedef struct pilhangko_vulkan_allocation {
 /* Allocates memory. Where a memory type that the request allows needs flushes, the alignment is nonCoherentAtomSize at least, so that a
  * flush touches no other allocation.
  * NULL_POINTER. NO_HANDLE. INVALID: a null buffer or image that counts. HOST_OUT_OF_MEMORY: the binding's own. Then the causes of
- * pilhangko_allocator_begin, or why the driver refused, as with pilhangko_allocator_refused: OUT_OF_MEMORY, DRIVER_REFUSED or
- * FAILED_TO_MAP. A driver that gives a null handle has no memory left. */
+ * pilhangko_allocator_begin (INVALID: a minimal alignment that is no power of two, too), or why the driver refused, as with
+ * pilhangko_allocator_refused: OUT_OF_MEMORY, DRIVER_REFUSED or FAILED_TO_MAP. A driver that gives a null handle has no memory left. */
 PILHANGKO_NODISCARD PILHANGKO_API pilhangko_vulkan_result PILHANGKO_CALL pilhangko_vulkan_allocate(
     pilhangko_vulkan *vulkan, const pilhangko_vulkan_request *request, pilhangko_vulkan_allocation *allocation);
 
@@ -314,15 +321,18 @@ PILHANGKO_NODISCARD PILHANGKO_API pilhangko_status PILHANGKO_CALL pilhangko_vulk
 
 /* ---- Buffers and images ---- */
 
-/* Where a buffer or an image goes. */
+/* Where a buffer or an image goes. The last three are as in a request. */
 typedef struct pilhangko_vulkan_placement {
     pilhangko_location location;
     bool dedicated;   /* whether it shall have memory of its own */
     const char *name; /* copied; NULL for none */
+    VkDeviceSize minimal_alignment;
+    uint32_t memory_type_bits;
+    const void *next;
 } pilhangko_vulkan_placement;
 
-/* Makes a buffer or an image with memory and binds it. It has memory of its own where placement says so or the driver requires it; where
- * the driver prefers it, it has if there is such memory, and else shares. What was made is undone where something fails. Buffers and images
+/* Makes a buffer or an image with memory and binds it. It has memory of its own where placement says so or has a chain, or the driver requires
+ * it; where the driver prefers it, it has if there is such memory, and else shares. What was made is undone where something fails. Buffers and images
  * that are sparse or disjoint are INVALID: bind these to memory of pilhangko_vulkan_allocate.
  * NULL_POINTER. NO_HANDLE. INVALID. CALL_FAILED: vkCreate... Then the causes of pilhangko_vulkan_allocate. CALL_FAILED: vkBind... */
 PILHANGKO_NODISCARD PILHANGKO_API pilhangko_vulkan_result PILHANGKO_CALL pilhangko_vulkan_create_buffer(pilhangko_vulkan *vulkan,

@@ -6,6 +6,7 @@
 #include "test.h"
 
 #define FAKE_THINGS 1024
+#define FAKE_ASKED 64
 #define FAKE_ATOM 64
 #define FAKE_GRANULARITY 1024
 
@@ -19,6 +20,9 @@ struct fake_memory {
     bool mapped, has_address;
     uint64_t alone_for; /* the buffer or image, or 0 */
     unsigned char *bytes;
+    VkMemoryAllocateFlags flags;
+    float priority;                             /* 0 where none is chained */
+    VkExternalMemoryHandleTypeFlags handle_types; /* for export, likewise */
 };
 
 struct fake_resource {
@@ -46,15 +50,24 @@ static struct {
     uint64_t flushes, invalidations;
     VkMappedMemoryRange range; /* of the latest flush or invalidation */
     const void *callbacks_user;
+    bool refuses_memory;          /* whether the device has none left */
+    uint32_t asked[FAKE_ASKED];   /* of which memory types memory was asked for since asked_count was set to 0 */
+    uint32_t asked_count;
 } fake;
 
+/* those of the device: `fake_begin` brings the usual ones */
+static VkMemoryType fake_types[VK_MAX_MEMORY_TYPES];
+static VkMemoryHeap fake_heaps[VK_MAX_MEMORY_HEAPS];
+
 /* the device's own; the host's; both, in a small heap; the host's, cached and not coherent; the host's, cached */
-static const VkMemoryType fake_types[] = {{1, 0}, {6, 1}, {7, 2}, {10, 1}, {14, 1}};
-static const VkMemoryHeap fake_heaps[] = {{UINT64_C(1) << 30, 1}, {UINT64_C(1) << 29, 0}, {UINT64_C(24) << 20, 1}};
+static const VkMemoryType fake_usual_types[] = {{1, 0}, {6, 1}, {7, 2}, {10, 1}, {14, 1}};
+static const VkMemoryHeap fake_usual_heaps[] = {{UINT64_C(1) << 30, 1}, {UINT64_C(1) << 29, 0}, {UINT64_C(24) << 20, 1}};
 
 static inline void fake_begin(void) {
     CHECK(fake.memory_count == 0 && fake.resource_count == 0);
     memset(&fake, 0, sizeof fake);
+    memcpy(fake_types, fake_usual_types, sizeof fake_usual_types);
+    memcpy(fake_heaps, fake_usual_heaps, sizeof fake_usual_heaps);
     fake.type_bits = 31;
     fake.type_count = 5;
     fake.heap_count = 3;
@@ -95,31 +108,59 @@ static inline struct fake_resource *fake_resource_of(uint64_t handle, bool is_im
 
 /* ---- memory */
 
+static inline void fake_read_dedicated(const VkMemoryDedicatedAllocateInfo *alone, struct fake_memory *memory) {
+    CHECK((alone->buffer == VK_NULL_HANDLE) != (alone->image == VK_NULL_HANDLE));
+    memory->alone_for = alone->buffer ? (uint64_t)alone->buffer : (uint64_t)alone->image;
+    CHECK(fake_resource_of(memory->alone_for, alone->image != VK_NULL_HANDLE)->needs.size == memory->size);
+}
+
+static inline void fake_read_flags(const VkMemoryAllocateFlagsInfo *info, struct fake_memory *memory) {
+    CHECK((info->flags & VK_MEMORY_ALLOCATE_DEVICE_ADDRESS_BIT) && info->deviceMask == 0);
+    memory->flags = info->flags;
+    memory->has_address = true;
+}
+
+/* Reads a struct of the chain; returns a bit of its own for each that may be there. */
+static inline unsigned fake_read_struct(const VkBaseInStructure *it, struct fake_memory *memory) {
+    switch (it->sType) {
+    case VK_STRUCTURE_TYPE_MEMORY_DEDICATED_ALLOCATE_INFO:
+        fake_read_dedicated((const VkMemoryDedicatedAllocateInfo *)it, memory);
+        return 1;
+    case VK_STRUCTURE_TYPE_MEMORY_ALLOCATE_FLAGS_INFO:
+        fake_read_flags((const VkMemoryAllocateFlagsInfo *)it, memory);
+        return 2;
+    case VK_STRUCTURE_TYPE_MEMORY_PRIORITY_ALLOCATE_INFO_EXT:
+        memory->priority = ((const VkMemoryPriorityAllocateInfoEXT *)it)->priority;
+        return 4;
+    case VK_STRUCTURE_TYPE_EXPORT_MEMORY_ALLOCATE_INFO:
+        memory->handle_types = ((const VkExportMemoryAllocateInfo *)it)->handleTypes;
+        return 8;
+    default: CHECK(!"a struct that may be chained"); return 0;
+    }
+}
+
+/* No struct is chained twice. */
 static inline void fake_read_chain(const VkMemoryAllocateInfo *info, struct fake_memory *memory) {
+    unsigned read = 0;
     for (const VkBaseInStructure *it = (const VkBaseInStructure *)info->pNext; it; it = it->pNext) {
-        if (it->sType == VK_STRUCTURE_TYPE_MEMORY_DEDICATED_ALLOCATE_INFO) {
-            const VkMemoryDedicatedAllocateInfo *alone = (const VkMemoryDedicatedAllocateInfo *)it;
-            CHECK(!memory->alone_for && (alone->buffer == VK_NULL_HANDLE) != (alone->image == VK_NULL_HANDLE));
-            memory->alone_for = alone->buffer ? (uint64_t)alone->buffer : (uint64_t)alone->image;
-            CHECK(fake_resource_of(memory->alone_for, alone->image != VK_NULL_HANDLE)->needs.size == info->allocationSize);
-        } else {
-            const VkMemoryAllocateFlagsInfo *flags = (const VkMemoryAllocateFlagsInfo *)it;
-            CHECK(it->sType == VK_STRUCTURE_TYPE_MEMORY_ALLOCATE_FLAGS_INFO && !memory->has_address);
-            CHECK(flags->flags == VK_MEMORY_ALLOCATE_DEVICE_ADDRESS_BIT && flags->deviceMask == 0);
-            memory->has_address = true;
-        }
+        const unsigned bit = fake_read_struct(it, memory);
+        CHECK(!(read & bit));
+        read |= bit;
     }
 }
 
 static VKAPI_ATTR VkResult VKAPI_CALL fake_allocate(
     VkDevice device, const VkMemoryAllocateInfo *info, const VkAllocationCallbacks *callbacks, VkDeviceMemory *memory) {
-    struct fake_memory made = {VK_NULL_HANDLE, info->allocationSize, info->memoryTypeIndex, false, false, 0, NULL};
+    struct fake_memory made = {.size = info->allocationSize, .type = info->memoryTypeIndex};
     VkResult code;
     enum fake_answer answer = fake_asked(&code);
     CHECK(device && info->sType == VK_STRUCTURE_TYPE_MEMORY_ALLOCATE_INFO && info->allocationSize > 0);
     CHECK(info->memoryTypeIndex < fake.type_count && fake.memory_count < FAKE_THINGS);
+    CHECK(info->allocationSize <= fake_heaps[fake_types[info->memoryTypeIndex].heapIndex].size);
+    if (fake.asked_count < FAKE_ASKED) fake.asked[fake.asked_count++] = info->memoryTypeIndex;
     fake_callbacks(callbacks);
     fake_read_chain(info, &made);
+    if (fake.refuses_memory) return VK_ERROR_OUT_OF_DEVICE_MEMORY;
     if (answer != FAKE_GRANTS) return code;
     made.handle = (VkDeviceMemory)++fake.last_handle;
     fake.memories[fake.memory_count++] = made;

@@ -15,8 +15,9 @@ static void ends(pilhangko_vulkan *vulkan) {
 
 static pilhangko_vulkan_allocation allocates(pilhangko_vulkan *vulkan, VkDeviceSize size, VkDeviceSize alignment, uint32_t bits) {
     pilhangko_vulkan_allocation allocation;
-    const pilhangko_vulkan_request request = {{size, alignment, bits}, PILHANGKO_LOCATION_UNKNOWN, PILHANGKO_KIND_NON_LINEAR,
-        PILHANGKO_SCHEME_MANAGED, VK_NULL_HANDLE, VK_NULL_HANDLE, "shared"};
+    pilhangko_vulkan_request request = fake_request(size, alignment, bits);
+    request.kind = PILHANGKO_KIND_NON_LINEAR;
+    request.name = "shared";
     IS(pilhangko_vulkan_allocate(vulkan, &request, &allocation).status, OK);
     return allocation;
 }

@@ -167,7 +167,7 @@ static VkImageCreateInfo image_of(uint32_t width, VkImageTiling tiling) {
     return info;
 }
 
-static const pilhangko_vulkan_placement on_gpu = {PILHANGKO_LOCATION_GPU_ONLY, false, "resource"};
+static const pilhangko_vulkan_placement on_gpu = {.location = PILHANGKO_LOCATION_GPU_ONLY, .name = "resource"};
 
 /* 145 = 29 * 5: the driver prefers memory of its own for it */
 static void resource_rows(uint32_t api_version) {
@@ -628,8 +628,11 @@ struct thing {
     pilhangko_vulkan_allocation allocation;
 };
 
-static const pilhangko_vulkan_placement placements[] = {{PILHANGKO_LOCATION_GPU_ONLY, false, "a name that takes host memory of its own"},
-    {PILHANGKO_LOCATION_CPU_TO_GPU, false, NULL}, {PILHANGKO_LOCATION_GPU_TO_CPU, true, "own"}};
+static const VkMemoryPriorityAllocateInfoEXT priority = {VK_STRUCTURE_TYPE_MEMORY_PRIORITY_ALLOCATE_INFO_EXT, NULL, 0.5F};
+static const pilhangko_vulkan_placement placements[] = {
+    {.location = PILHANGKO_LOCATION_GPU_ONLY, .name = "a name that takes host memory of its own", .minimal_alignment = 4096},
+    {.location = PILHANGKO_LOCATION_CPU_TO_GPU, .memory_type_bits = 30},
+    {.location = PILHANGKO_LOCATION_GPU_TO_CPU, .dedicated = true, .name = "own", .next = &priority}};
 
 static pilhangko_vulkan_result makes(pilhangko_vulkan *vulkan, unsigned i, struct thing *t) {
     const uint32_t bytes = 1000 + 2 * MB * (i % 2) + i;

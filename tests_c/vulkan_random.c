@@ -28,7 +28,7 @@ static uint64_t last_serial;
 static FILE *replies;                                    /* what the captured calls came to, or NULL */
 static pilhangko_budget captured_budgets[ACCOUNT_TYPES]; /* as the capture has them by now */
 static unsigned allocated, made, refused, second_attempts, freed, not_live, renamed, flushed, shared_after_all, moved, stayed;
-static unsigned finished, emptied, abandoned, not_open;
+static unsigned finished, emptied, abandoned, not_open, chained;
 
 static const char *const names[] = {NULL, "", "vertices", "a name that takes host memory of its own", "\xc3\xa9t\xc3\xa9 2",
     "a name of more than sixty-four bytes, which no trace can have as it stands here"};
@@ -169,6 +169,40 @@ static uint64_t raised(uint64_t alignment, uint32_t bits) {
     return is_power && alignment < FAKE_ATOM && (bits >> 3 & 1) ? FAKE_ATOM : alignment;
 }
 
+/* An alignment that was asked for beside the needed one, or 0. Where one is no power of two there is none by both. */
+static uint64_t by_both(uint64_t needed, uint64_t wanted) {
+    const bool are_powers = needed && wanted && !(needed & (needed - 1)) && !(wanted & (wanted - 1));
+    if (wanted == 0) return needed;
+    return !are_powers ? 0 : needed < wanted ? wanted : needed;
+}
+
+static const VkMemoryPriorityAllocateInfoEXT priority = {VK_STRUCTURE_TYPE_MEMORY_PRIORITY_ALLOCATE_INFO_EXT, NULL, 0.25F};
+
+/* What a request may ask for beside what is needed. */
+struct more {
+    VkDeviceSize alignment;
+    uint32_t bits;
+    const void *next;
+};
+
+static struct more some_more(void) {
+    struct more more = {0, 0, NULL};
+    if (random_below(5) == 0) more.alignment = random_below(50) ? UINT64_C(1) << random_below(14) : random_below(8);
+    if (random_below(5) == 0) more.bits = (uint32_t)random_below(64);
+    if (random_below(20) == 0) more.next = &priority;
+    chained += more.next != NULL;
+    return more;
+}
+
+static uint32_t by_both_bits(uint32_t needed, uint32_t wanted) {
+    return wanted ? needed & wanted : needed;
+}
+
+/* The chain was handed on: all that has one lies in memory of its own. */
+static void is_chained(const pilhangko_vulkan_allocation *a, const void *next) {
+    CHECK(fake_memory_of(a->memory)->priority == (next ? priority.priority : 0.0F));
+}
+
 static uint64_t some_size(void) {
     const uint64_t large = random_below(60);
     return 1 + random_below(large == 0 ? 9 * MB : large == 1 ? 30 * MB : large < 20 ? 3 * MB : 200000);
@@ -200,9 +234,15 @@ static void allocates(void) {
     request.kind = random_below(100) ? 1 + (uint32_t)random_below(2) : (uint32_t)random_below(4);
     request.scheme = PILHANGKO_SCHEME_MANAGED;
     request.name = SOME_NAME;
-    uint64_t alignment = raised(request.requirements.alignment, request.requirements.memoryTypeBits);
-    pilhangko_allocator_request asks = {request.requirements.size, alignment, request.requirements.memoryTypeBits, request.kind,
-        request.location, PILHANGKO_SCHEME_MANAGED, 0};
+    const struct more more = some_more();
+    request.minimal_alignment = more.alignment;
+    request.memory_type_bits = more.bits;
+    request.next = more.next;
+    const uint32_t bits = by_both_bits(request.requirements.memoryTypeBits, more.bits);
+    const uint64_t alignment = raised(by_both(request.requirements.alignment, more.alignment), bits);
+    const bool dedicated = more.next != NULL;
+    pilhangko_allocator_request asks = {request.requirements.size, alignment, bits, request.kind, request.location,
+        dedicated ? PILHANGKO_SCHEME_BUFFER : PILHANGKO_SCHEME_MANAGED, 0};
     struct live it = {
         {VK_NULL_HANDLE, 1, 2, true, {3, false, {4, 5, 6, 7, 8}}, 11, 9, 10}, VK_NULL_HANDLE, VK_NULL_HANDLE, alignment, request.kind};
     uint64_t first = fake.questions;
@@ -212,8 +252,9 @@ static void allocates(void) {
     CHECK(result.driver == f.driver && fake.questions == first + f.questions);
     if (f.status == PILHANGKO_OK) {
         meets(&it.allocation);
-        CHECK(!it.allocation.dedicated);
-        reply_allocation(&it.allocation.piece, false);
+        is_chained(&it.allocation, more.next);
+        CHECK(it.allocation.dedicated == dedicated);
+        reply_allocation(&it.allocation.piece, dedicated);
         keeps(&it);
         allocated++;
         second_attempts += account.is_second;
@@ -293,22 +334,26 @@ static void creates(void) {
     const bool is_image = random_below(2) == 0;
     const uint64_t bytes = some_size();
     const VkMemoryRequirements needs = fake_needs(bytes);
-    const pilhangko_vulkan_placement placement = {1 + (uint32_t)random_below(4), random_below(30) == 0, SOME_NAME};
-    const bool dedicated = placement.dedicated || fake_requires_dedicated(bytes) || fake_prefers_dedicated(bytes);
+    const struct more more = some_more();
+    const pilhangko_vulkan_placement placement = {.location = 1 + (uint32_t)random_below(4), .dedicated = random_below(30) == 0,
+        .name = SOME_NAME, .minimal_alignment = more.alignment, .memory_type_bits = more.bits, .next = more.next};
+    const bool own = placement.dedicated || more.next, dedicated = own || fake_requires_dedicated(bytes) || fake_prefers_dedicated(bytes);
+    const uint32_t bits = by_both_bits(needs.memoryTypeBits, more.bits);
     const uint32_t scheme = !dedicated ? PILHANGKO_SCHEME_MANAGED : is_image ? PILHANGKO_SCHEME_IMAGE : PILHANGKO_SCHEME_BUFFER;
     const uint64_t first = fake.questions;
     struct live it;
     memset(&it, 0, sizeof it);
     it.kind = is_image && random_below(3) ? PILHANGKO_KIND_NON_LINEAR : PILHANGKO_KIND_LINEAR;
-    it.alignment = raised(needs.alignment, needs.memoryTypeBits);
-    const pilhangko_allocator_request asks = {needs.size, it.alignment, needs.memoryTypeBits, it.kind, placement.location, scheme, 0};
-    const bool is_preferred = dedicated && !placement.dedicated && (fake.last_handle + 1) % 2 == 1; /* fake_tell_needs */
+    it.alignment = raised(by_both(needs.alignment, more.alignment), bits);
+    const pilhangko_allocator_request asks = {needs.size, it.alignment, bits, it.kind, placement.location, scheme, 0};
+    const bool is_preferred = dedicated && !own && (fake.last_handle + 1) % 2 == 1; /* fake_tell_needs */
     const struct foretold f = foretell_resource(&asks, is_preferred);
     const pilhangko_vulkan_result result = create(is_image, bytes, &placement, &it);
     IS(result.status, f.status);
     CHECK(result.driver == f.driver && fake.questions == first + f.questions);
     if (f.status == PILHANGKO_OK) {
         meets(&it.allocation);
+        is_chained(&it.allocation, more.next);
         CHECK(it.allocation.dedicated == (account.request.scheme != PILHANGKO_SCHEME_MANAGED));
         reply_allocation(&it.allocation.piece, it.allocation.dedicated);
         keeps(&it);
@@ -738,11 +783,11 @@ int main(int count, char **words) {
         ends();
     }
     printf("200000 calls: %u allocated, %u made, %u refused, %u at the second attempt, %u shared after all, %u freed, %u not live, "
-           "%u renamed, %u flushed, %u moved, %u stayed, %u moves finished, %u blocks emptied, %u abandoned, %u not open\n",
-        allocated, made, refused, second_attempts, shared_after_all, freed, not_live, renamed, flushed, moved, stayed, finished, emptied,
+           "%u renamed, %u flushed, %u with a chain, %u moved, %u stayed, %u moves finished, %u blocks emptied, %u abandoned, %u not open\n",
+        allocated, made, refused, second_attempts, shared_after_all, freed, not_live, renamed, flushed, chained, moved, stayed, finished, emptied,
         abandoned, not_open);
     CHECK(allocated > 10000 && made > 5000 && refused > 10000 && second_attempts > 300 && freed > 15000 && not_live > 1000);
-    CHECK(renamed > 1000 && flushed > 100 && shared_after_all > 20 && moved > 500 && stayed > 500);
+    CHECK(renamed > 1000 && flushed > 100 && chained > 1000 && shared_after_all > 20 && moved > 500 && stayed > 500);
     CHECK(finished > 100 && emptied > 5 && abandoned > 100 && not_open > 100);
     if (count == 3) captured_run(words[1], words[2]);
     return 0;

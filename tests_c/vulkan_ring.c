@@ -6,8 +6,8 @@
 #define MB (UINT64_C(1) << 20)
 #define OK ((pilhangko_status)PILHANGKO_OK)
 
-static const pilhangko_vulkan_placement uploads = {PILHANGKO_LOCATION_CPU_TO_GPU, false, "uploads"};
-static const pilhangko_vulkan_placement anywhere = {PILHANGKO_LOCATION_UNKNOWN, false, "uploads"};
+static const pilhangko_vulkan_placement uploads = {.location = PILHANGKO_LOCATION_CPU_TO_GPU, .name = "uploads"};
+static const pilhangko_vulkan_placement anywhere = {.location = PILHANGKO_LOCATION_UNKNOWN, .name = "uploads"};
 
 /* Nothing may be left, of the driver's and of the host's. */
 static void ends(pilhangko_vulkan *vulkan) {
@@ -123,8 +123,8 @@ static void is_refused(
 static void creations(void) {
     pilhangko_vulkan vulkan = fake_binding(), none = {0};
     pilhangko_vulkan_ring ring = {0};
-    const pilhangko_vulkan_placement unseen = {PILHANGKO_LOCATION_GPU_ONLY, false, NULL},
-                                     bad = {PILHANGKO_LOCATION_CPU_TO_GPU, false, "\xff"};
+    const pilhangko_vulkan_placement unseen = {.location = PILHANGKO_LOCATION_GPU_ONLY},
+                                     bad = {.location = PILHANGKO_LOCATION_CPU_TO_GPU, .name = "\xff"};
     is_refused(&none, &ring, settings_of(1000, 1, uploads), PILHANGKO_NO_HANDLE);
     is_refused(&vulkan, &ring, settings_of(0, 1, uploads), PILHANGKO_INVALID);
     is_refused(&vulkan, &ring, settings_of(UINT64_C(1) << 63, 1, uploads), PILHANGKO_INVALID);
