@@ -596,6 +596,11 @@ extern "C" {
         budget: *mut Budget,
     ) -> u32;
     pub(crate) fn pilhangko_raw_allocator_capacity(allocator: *mut Handle, bytes: *mut u64) -> u32;
+    pub(crate) fn pilhangko_raw_allocator_type_capacity(
+        allocator: *mut Handle,
+        memory_type: usize,
+        bytes: *mut u64,
+    ) -> u32;
     pub(crate) fn pilhangko_raw_allocator_best_type(
         allocator: *mut Handle,
         memory_type_bits: u32,

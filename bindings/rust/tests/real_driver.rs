@@ -5,9 +5,12 @@
 #[path = "../examples/support/vulkan.rs"]
 mod vulkan;
 
-use pilhangko::vulkan::{AllocationCreateDesc, AllocationScheme, Allocator, AllocatorCreateDesc, MemoryRequirements};
+use pilhangko::vulkan::{
+    AllocationCreateDesc, AllocationScheme, Allocator, AllocatorCreateDesc, BufferCreateInfo, MemoryRequirements,
+    Placement,
+};
 use pilhangko::MemoryLocation;
-use vulkan::{Resource, Vulkan};
+use vulkan::{image_info, Resource, Vulkan};
 
 const LOCATIONS: [MemoryLocation; 4] =
     [MemoryLocation::Unknown, MemoryLocation::GpuOnly, MemoryLocation::CpuToGpu, MemoryLocation::GpuToCpu];
@@ -58,6 +61,55 @@ fn resources_are_bound_where_the_allocator_says() {
         assert!(it.mapped_slice().is_none_or(|bytes| bytes.iter().all(|&byte| byte == index as u8)));
         vulkan.destroy(resource);
         allocator.free(it).unwrap();
+    }
+    drop(allocator);
+    assert_eq!(vulkan.messages(), 0);
+}
+
+/// Buffers and images that the allocator makes: staging, attachments that are stored nowhere, and others.
+#[test]
+fn resources_are_made_with_their_memory() {
+    let Some(vulkan) = Vulkan::open() else {
+        eprintln!("no Vulkan device here: no real driver was asked");
+        return;
+    };
+    let mut allocator = Allocator::new(&AllocatorCreateDesc::new(vulkan.whole_device())).unwrap();
+    let (mut buffers, mut images) = (Vec::new(), Vec::new());
+    for index in 0..150u32 {
+        let own = Placement { dedicated: true, ..Placement::new("own", MemoryLocation::GpuToCpu) };
+        let placement = [Placement::staging("staging"), Placement::new("target", MemoryLocation::GpuOnly), own];
+        let placement = placement[index as usize % 3];
+        let attachment = image_info(1 + index, 200 - index, false, 0x40 | 0x10); // a transient one, for colours
+        let linear = image_info(1 + index, 200 - index, true, 1 | 2);
+        // SAFETY: the device makes such buffers and images.
+        unsafe {
+            buffers.push(
+                allocator.create_buffer(&BufferCreateInfo::new(1 + u64::from(index) * 999, 3), &placement).unwrap(),
+            );
+            images.push(allocator.create_image(&linear, &placement).unwrap());
+            images.push(allocator.create_image(&attachment, &Placement::transient("attachment")).unwrap());
+        }
+    }
+    if vulkan.has_budgets {
+        allocator.update_budgets().unwrap();
+        assert!(allocator.read_heap(0).unwrap().budget.is_some_and(|it| it.budget > 0));
+    }
+    let held = (0..).map_while(|heap| allocator.read_heap(heap)).map(|it| it.held);
+    assert_eq!(held.sum::<u64>(), allocator.capacity());
+    for (_, it) in &mut buffers {
+        if let Some(bytes) = it.mapped_slice_mut() {
+            bytes.fill(7);
+            allocator.flush(it, ..).unwrap();
+        }
+    }
+    for (buffer, it) in buffers {
+        assert!(it.mapped_slice().is_none_or(|bytes| bytes.iter().all(|&byte| byte == 7)));
+        // SAFETY: it is bound there, and the device doesn't use it.
+        unsafe { allocator.destroy_buffer(buffer, it) }.unwrap();
+    }
+    for (image, it) in images {
+        // SAFETY: it is bound there, and the device doesn't use it.
+        unsafe { allocator.destroy_image(image, it) }.unwrap();
     }
     drop(allocator);
     assert_eq!(vulkan.messages(), 0);

@@ -3,8 +3,9 @@
 #![allow(dead_code, missing_docs)]
 
 use pilhangko::vulkan::{
-    Allocation, Buffer, Device, DeviceFunctions, DeviceLimits, DeviceMemory, Image, MemoryRequirements,
-    PhysicalDeviceMemoryProperties, VoidFunction,
+    Allocation, Buffer, BufferCreateInfo, Device, DeviceFunctions, DeviceLimits, DeviceMemory,
+    GetPhysicalDeviceMemoryProperties2, Image, ImageCreateInfo, MemoryRequirements, PhysicalDeviceMemoryProperties,
+    ResourceFunctions, VoidFunction,
 };
 use std::ffi::{c_char, c_void, CStr};
 use std::mem::{transmute, transmute_copy};
@@ -150,35 +151,12 @@ struct DeviceCreateInfo {
 }
 
 #[repr(C)]
-struct BufferCreateInfo {
-    s_type: i32,
-    next: *const c_void,
-    flags: u32,
-    size: u64,
-    usage: u32,
-    sharing: i32,
-    family_count: u32,
-    families: *const u32,
+struct ExtensionProperties {
+    name: [c_char; 256],
+    version: u32,
 }
 
-#[repr(C)]
-struct ImageCreateInfo {
-    s_type: i32,
-    next: *const c_void,
-    flags: u32,
-    image_type: i32,
-    format: i32,
-    extent: [u32; 3],
-    mip_levels: u32,
-    array_layers: u32,
-    samples: i32,
-    tiling: i32,
-    usage: u32,
-    sharing: i32,
-    family_count: u32,
-    families: *const u32,
-    initial_layout: i32,
-}
+const MEMORY_BUDGET: &CStr = c"VK_EXT_memory_budget";
 
 /// Counts a message of the validation layer.
 unsafe extern "system" fn reported(_: u32, _: u32, message: *const Message, user: *mut c_void) -> u32 {
@@ -187,6 +165,27 @@ unsafe extern "system" fn reported(_: u32, _: u32, message: *const Message, user
     eprintln!("validation: {}", text.to_string_lossy());
     count.fetch_add(1, Ordering::SeqCst);
     0
+}
+
+/// An image of so many texels of four bytes.
+pub fn image_info(width: u32, height: u32, is_linear: bool, usage: u32) -> ImageCreateInfo {
+    ImageCreateInfo {
+        s_type: ImageCreateInfo::STRUCTURE_TYPE,
+        next: null(),
+        flags: 0,
+        image_type: 1,
+        format: 37, // R8G8B8A8_UNORM
+        extent: [width, height, 1],
+        mip_levels: 1,
+        array_layers: 1,
+        samples: 1,
+        tiling: i32::from(is_linear),
+        usage,
+        sharing_mode: 0,
+        queue_family_index_count: 0,
+        queue_family_indices: null(),
+        initial_layout: 0,
+    }
 }
 
 /// A buffer or an image.
@@ -201,6 +200,8 @@ pub enum Resource {
 pub struct Vulkan {
     pub device_name: String,
     pub validates: bool,
+    /// Whether VK_EXT_memory_budget is enabled.
+    pub has_budgets: bool,
     find: GetProcAddr,
     instance: Handle,
     messenger: u64,
@@ -224,6 +225,7 @@ impl Vulkan {
         let mut vulkan = Vulkan {
             device_name: String::new(),
             validates: false,
+            has_budgets: false,
             find,
             instance: null_mut(),
             messenger: 0,
@@ -338,6 +340,7 @@ impl Vulkan {
     fn create_device(&mut self) {
         type Create = unsafe extern "system" fn(Handle, *const DeviceCreateInfo, *const c_void, *mut Handle) -> i32;
         let queue = QueueCreateInfo { s_type: 2, next: null(), flags: 0, family: 0, count: 1, priorities: &1.0 };
+        self.has_budgets = self.has_extension(MEMORY_BUDGET);
         let info = DeviceCreateInfo {
             s_type: 3,
             next: null(),
@@ -346,8 +349,8 @@ impl Vulkan {
             queues: &queue,
             layer_count: 0,
             layers: null(),
-            extension_count: 0,
-            extensions: null(),
+            extension_count: u32::from(self.has_budgets),
+            extensions: &MEMORY_BUDGET.as_ptr(),
             features: null(),
         };
         // SAFETY: the type is the function's, and the description outlives the call.
@@ -371,6 +374,34 @@ impl Vulkan {
         }
     }
 
+    /// The same with functions for buffers and images, and with budgets where the driver tells of them.
+    pub fn whole_device(&self) -> Device {
+        // SAFETY: the types are the functions', and all of it is of the same live device.
+        unsafe {
+            let find: GetProcAddr = self.function(c"vkGetDeviceProcAddr");
+            let functions = ResourceFunctions::load(true, |name| find(self.device, name.as_ptr()));
+            let device = self.device().with_resources(functions.expect("Vulkan 1.0 has them"));
+            if !self.has_budgets {
+                return device;
+            }
+            let tell: GetPhysicalDeviceMemoryProperties2 = self.function(c"vkGetPhysicalDeviceMemoryProperties2");
+            device.with_memory_budget(self.physical_device as u64, tell)
+        }
+    }
+
+    fn has_extension(&self, name: &CStr) -> bool {
+        type Enumerate = unsafe extern "system" fn(Handle, *const c_char, *mut u32, *mut ExtensionProperties) -> i32;
+        let mut count = 0;
+        // SAFETY: the type is the function's; there is room for as many as it counted, for which zeros are values.
+        unsafe {
+            let enumerate: Enumerate = self.function(c"vkEnumerateDeviceExtensionProperties");
+            succeeded(enumerate(self.physical_device, null(), &mut count, null_mut()));
+            let mut all: Vec<ExtensionProperties> = (0..count).map(|_| std::mem::zeroed()).collect();
+            succeeded(enumerate(self.physical_device, null(), &mut count, all.as_mut_ptr()));
+            all.iter().any(|it| CStr::from_ptr(it.name.as_ptr()) == name)
+        }
+    }
+
     /// How often the validation layer had something to say.
     pub fn messages(&self) -> usize {
         self.messages.load(Ordering::SeqCst)
@@ -378,39 +409,14 @@ impl Vulkan {
 
     /// A buffer of so many bytes, and what it needs.
     pub fn create_buffer(&self, size: u64) -> (Resource, MemoryRequirements) {
-        let info = BufferCreateInfo {
-            s_type: 12,
-            next: null(),
-            flags: 0,
-            size,
-            usage: 1 | 0x10, // to copy from, uniform buffer
-            sharing: 0,
-            family_count: 0,
-            families: null(),
-        };
+        let info = BufferCreateInfo::new(size, 1 | 0x10); // to copy from, uniform buffer
         let (buffer, needs) = self.create(c"vkCreateBuffer", &info, c"vkGetBufferMemoryRequirements");
         (Resource::Buffer(Buffer(buffer)), needs)
     }
 
     /// An image of so many texels of four bytes, and what it needs.
     pub fn create_image(&self, width: u32, height: u32, is_linear: bool) -> (Resource, MemoryRequirements) {
-        let info = ImageCreateInfo {
-            s_type: 14,
-            next: null(),
-            flags: 0,
-            image_type: 1,
-            format: 37, // R8G8B8A8_UNORM
-            extent: [width, height, 1],
-            mip_levels: 1,
-            array_layers: 1,
-            samples: 1,
-            tiling: i32::from(is_linear),
-            usage: 1 | 2, // to copy from and to
-            sharing: 0,
-            family_count: 0,
-            families: null(),
-            initial_layout: 0,
-        };
+        let info = image_info(width, height, is_linear, 1 | 2); // to copy from and to
         let (image, needs) = self.create(c"vkCreateImage", &info, c"vkGetImageMemoryRequirements");
         (Resource::Image(Image(image)), needs)
     }

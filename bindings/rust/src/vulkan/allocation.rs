@@ -15,6 +15,16 @@ use std::slice;
 pub struct Allocation {
     pub(super) held: Option<Held>,
     pub(super) name: Option<String>,
+    pub(super) user_data: u64,
+}
+
+/// The block that an allocation lies in.
+#[derive(Clone, Copy, Debug, PartialEq, Eq)]
+pub struct AllocationBlock {
+    /// Its size in bytes.
+    pub size: u64,
+    /// Whether other allocations may lie in it.
+    pub is_shared: bool,
 }
 
 /// What an allocation that isn't null stands for.
@@ -95,6 +105,16 @@ impl Allocation {
     /// The name that it was allocated or renamed with; `None` where it is null and was never renamed.
     pub fn name(&self) -> Option<&str> {
         self.name.as_deref()
+    }
+
+    /// The word of its owner's that it keeps, an index or an address; 0 until one is set.
+    pub fn user_data(&self) -> u64 {
+        self.user_data
+    }
+
+    /// Keeps a word of its owner's.
+    pub fn set_user_data(&mut self, user_data: u64) {
+        self.user_data = user_data;
     }
 
     /// The index of its memory type; `usize::MAX` where it is null.

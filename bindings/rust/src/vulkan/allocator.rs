@@ -1,10 +1,11 @@
 //! The allocator.
 
 use super::abi::{Buffer, Image, MemoryRequirements};
-use super::allocation::{Allocation, Held};
+use super::allocation::{Allocation, AllocationBlock, Held};
 use super::capture::Capture;
 use super::device::{Answer, Device, Purpose, Refusal};
 use super::machine::{LiveBlock, Machine, Progress, Question};
+use super::options::{AllocationOptions, Chain};
 use super::reading;
 use crate::error::{check, copied};
 use crate::memory_type::BlockStatistics;
@@ -174,11 +175,23 @@ impl Allocator {
     /// `u64::MAX`, `BudgetExceeded`, and what the driver refuses: `OutOfMemory` for `VK_ERROR_OUT_OF_DEVICE_MEMORY`, `Internal` for another
     /// code, `FailedToMap`. Lack of host memory for the binding's own lists is `HostOutOfMemory` before all of them.
     pub fn allocate(&mut self, desc: &AllocationCreateDesc<'_>) -> Result<Allocation> {
+        self.allocate_with(desc, &AllocationOptions::default())
+    }
+
+    /// Allocates a piece as `allocate` does, with what the options ask for.
+    ///
+    /// The errors are those of `allocate`: `InvalidAllocationCreateDesc` for a minimal alignment that is no power of two, too.
+    pub fn allocate_with(
+        &mut self,
+        desc: &AllocationCreateDesc<'_>,
+        options: &AllocationOptions<'_>,
+    ) -> Result<Allocation> {
         self.log_request(desc);
-        let requirements = self.device().in_whole_atoms(desc.requirements);
-        let desc = AllocationCreateDesc { requirements, ..desc.clone() };
+        let requirements = self.device().in_whole_atoms(options.narrow(desc.requirements));
+        let allocation_scheme = options.scheme(desc.allocation_scheme);
+        let desc = AllocationCreateDesc { requirements, allocation_scheme, ..desc.clone() };
         self.requests += 1;
-        let result = self.serve(&desc);
+        let result = self.serve(&desc, options.next);
         if let Some(capture) = &mut self.capture {
             match result {
                 Err(AllocationError::HostOutOfMemory) => capture.undo(),
@@ -215,7 +228,7 @@ impl Allocator {
     /// Looks for a second place for an allocation: the one that this request, which it was made for, would get as a new allocation now, if
     /// that lies in a block that is looked at before its own; `None` where there is none. The driver isn't asked. Both are live then: bind
     /// a new buffer or image at the second, copy, and free the first once the device has finished with both, which ends the move; or free
-    /// the second, which abandons it. The request's memory type bits and location aren't looked at.
+    /// the second, which abandons it. The second has the first one's user data. The request's memory type bits and location aren't looked at.
     ///
     /// The errors, and then nothing changes: `HostOutOfMemory` of the binding's own, `Internal` where it is null or not this allocator's,
     /// `InvalidAllocationCreateDesc`, also where the size isn't the allocation's or memory for one buffer or image alone is asked for,
@@ -236,7 +249,8 @@ impl Allocator {
         }
         let Some(to) = to else { return Ok(None) };
         self.requests += 1;
-        Ok(Some(Allocation { held: Some(self.held(to, desc.allocation_scheme)), name: Some(own) }))
+        let user_data = allocation.user_data;
+        Ok(Some(Allocation { held: Some(self.held(to, desc.allocation_scheme)), name: Some(own), user_data }))
     }
 
     /// Proposes the moves of a frame: of these allocations, each with the request that it was made for, those in the lowest slots first, so
@@ -311,6 +325,14 @@ impl Allocator {
         allocation.held.as_ref().is_some_and(|held| self.owns(held).is_ok() && self.machine.is_live(&held.piece))
     }
 
+    /// The block that a live allocation lies in.
+    ///
+    /// The error: `Internal` where it isn't this allocator's.
+    pub fn read_block(&self, allocation: &Allocation) -> Result<AllocationBlock> {
+        let block = self.block_of(self.live(allocation)?).expect("a live piece lies in a block");
+        Ok(AllocationBlock { size: block.size, is_shared: block.is_shared })
+    }
+
     /// Bounds the sum of the sizes of a memory type's blocks in bytes, or takes the bound away. A bound below the present sum gives no
     /// block back.
     ///
@@ -337,6 +359,11 @@ impl Allocator {
     /// The sum of the sizes of the live blocks in bytes.
     pub fn capacity(&self) -> u64 {
         self.machine.capacity()
+    }
+
+    /// The sum of the sizes of a memory type's blocks in bytes; `None` where it isn't there.
+    pub fn type_capacity(&self, memory_type: usize) -> Option<u64> {
+        self.machine.type_capacity(memory_type)
     }
 
     /// What is counted of a memory type; `None` where it isn't there.
@@ -404,21 +431,22 @@ impl Allocator {
     }
 
     /// A request from its beginning to its end.
-    fn serve(&mut self, desc: &AllocationCreateDesc<'_>) -> Result<Allocation> {
+    fn serve(&mut self, desc: &AllocationCreateDesc<'_>, next: Option<Chain<'_>>) -> Result<Allocation> {
         let name = copied(desc.name)?;
-        let piece = self.place(desc)?;
-        Ok(Allocation { held: Some(self.held(piece, desc.allocation_scheme)), name: Some(name) })
+        let piece = self.place(desc, next)?;
+        Ok(Allocation { held: Some(self.held(piece, desc.allocation_scheme)), name: Some(name), user_data: 0 })
     }
 
     /// Asks the driver until the request has a piece, or is refused.
-    fn place(&mut self, desc: &AllocationCreateDesc<'_>) -> Result<AllocatorPiece> {
+    fn place(&mut self, desc: &AllocationCreateDesc<'_>, next: Option<Chain<'_>>) -> Result<AllocatorPiece> {
+        let purpose = Purpose { scheme: desc.allocation_scheme, device_address: self.device_address, next };
         let mut progress = self.machine.begin(desc)?;
         let mut refusal = None;
         loop {
             progress = match progress {
                 Progress::Piece(piece) => return Ok(piece),
                 Progress::Refused(status) => return Err(error_of(status, refusal)),
-                Progress::Question(question) => match self.ask(&question, desc.allocation_scheme) {
+                Progress::Question(question) => match self.ask(&question, purpose) {
                     Answer::Granted(memory) => return Ok(self.machine.granted(memory)),
                     Answer::MemoryRefused(refused) => {
                         refusal = Some(refused);
@@ -433,8 +461,8 @@ impl Allocator {
         }
     }
 
-    fn ask(&mut self, question: &Question, scheme: AllocationScheme) -> Answer {
-        let answer = self.device().ask(question, Purpose { scheme, device_address: self.device_address });
+    fn ask(&mut self, question: &Question, purpose: Purpose<'_>) -> Answer {
+        let answer = self.device().ask(question, purpose);
         if let Some(capture) = &mut self.capture {
             capture.asked(question.mapped, &answer);
         }

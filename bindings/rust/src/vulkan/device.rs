@@ -5,7 +5,10 @@ use super::abi::{
     MemoryDedicatedAllocateInfo, MemoryHeap, MemoryPropertyFlags, MemoryRequirements, MemoryType,
     PhysicalDeviceMemoryProperties, OUT_OF_DEVICE_MEMORY, SUCCESS, WHOLE_SIZE,
 };
+use super::budgets::BudgetSource;
 use super::machine::Question;
+use super::options::Chain;
+use super::resource_abi::{GetPhysicalDeviceMemoryProperties2, ResourceFunctions};
 use super::AllocationScheme;
 use crate::error::{invalid_device, INVALID_ATOM_SIZE, TOO_MANY_HEAPS, TOO_MANY_TYPES};
 use crate::Result;
@@ -30,6 +33,8 @@ pub struct Device {
     functions: DeviceFunctions,
     memory_properties: PhysicalDeviceMemoryProperties,
     limits: DeviceLimits,
+    pub(super) resources: Option<ResourceFunctions>,
+    pub(super) budgets: Option<BudgetSource>,
 }
 
 impl Device {
@@ -53,7 +58,29 @@ impl Device {
         memory_properties: PhysicalDeviceMemoryProperties,
         limits: DeviceLimits,
     ) -> Self {
-        Device { handle, functions, memory_properties, limits }
+        Device { handle, functions, memory_properties, limits, resources: None, budgets: None }
+    }
+
+    /// The device with functions that make buffers and images.
+    ///
+    /// # Safety
+    ///
+    /// The caller promises that they are the device's own.
+    pub const unsafe fn with_resources(self, functions: ResourceFunctions) -> Self {
+        Device { resources: Some(functions), ..self }
+    }
+
+    /// The device, which tells of its budgets: VK_EXT_memory_budget is enabled.
+    ///
+    /// # Safety
+    ///
+    /// The caller promises that it is a device of this `VkPhysicalDevice`, and that the function is one of its live instance.
+    pub const unsafe fn with_memory_budget(
+        self,
+        physical_device: u64,
+        tell: GetPhysicalDeviceMemoryProperties2,
+    ) -> Self {
+        Device { budgets: Some(BudgetSource { physical_device, tell }), ..self }
     }
 
     /// The memory types.
@@ -104,7 +131,7 @@ impl Device {
     }
 
     /// Asks the driver for the memory of a block, and to map it where it is to be mapped. Memory that it doesn't map goes back.
-    pub(super) fn ask(&self, question: &Question, purpose: Purpose) -> Answer {
+    pub(super) fn ask(&self, question: &Question, purpose: Purpose<'_>) -> Answer {
         let memory = match self.allocate(question, purpose) {
             Err(refusal) => return Answer::MemoryRefused(refusal),
             Ok(memory) => memory,
@@ -154,19 +181,23 @@ impl Device {
         }
     }
 
-    fn as_ptr(&self) -> *mut c_void {
+    pub(super) fn as_ptr(&self) -> *mut c_void {
         self.handle as usize as *mut c_void
     }
 
-    fn allocate(&self, question: &Question, purpose: Purpose) -> Result<DeviceMemory, Refusal> {
+    fn allocate(&self, question: &Question, purpose: Purpose<'_>) -> Result<DeviceMemory, Refusal> {
+        let has = |s_type| purpose.next.is_some_and(|chain| chain.has(s_type));
+        let next = purpose.next.map_or(ptr::null(), Chain::as_ptr);
         let addresses = MemoryAllocateFlagsInfo {
             s_type: MemoryAllocateFlagsInfo::STRUCTURE_TYPE,
-            next: ptr::null(),
+            next,
             flags: MemoryAllocateFlagsInfo::DEVICE_ADDRESS,
             device_mask: 0,
         };
-        let with_addresses = if purpose.device_address { (&raw const addresses).cast() } else { ptr::null() };
-        let dedicated = dedicated_info(purpose.scheme, with_addresses);
+        let says_addresses = purpose.device_address && !has(MemoryAllocateFlagsInfo::STRUCTURE_TYPE);
+        let with_addresses = if says_addresses { (&raw const addresses).cast() } else { next };
+        let says_dedicated = !has(MemoryDedicatedAllocateInfo::STRUCTURE_TYPE);
+        let dedicated = says_dedicated.then(|| dedicated_info(purpose.scheme, with_addresses)).flatten();
         let info = MemoryAllocateInfo {
             s_type: MemoryAllocateInfo::STRUCTURE_TYPE,
             next: dedicated.as_ref().map_or(with_addresses, |info| ptr::from_ref(info).cast()),
@@ -214,10 +245,10 @@ pub(super) fn needs_flushes(flags: MemoryPropertyFlags) -> bool {
     flags.contains(MemoryPropertyFlags::HOST_VISIBLE) && !flags.contains(MemoryPropertyFlags::HOST_COHERENT)
 }
 
-/// What says that memory is for one buffer or image alone, where it is.
+/// What says that memory is for one buffer or image alone, where it is for one that has a handle.
 fn dedicated_info(scheme: AllocationScheme, next: *const c_void) -> Option<MemoryDedicatedAllocateInfo> {
     let (buffer, image) = match scheme {
-        AllocationScheme::GpuAllocatorManaged => return None,
+        AllocationScheme::GpuAllocatorManaged | AllocationScheme::DedicatedBuffer(Buffer(0)) => return None,
         AllocationScheme::DedicatedBuffer(buffer) => (buffer, Image(0)),
         AllocationScheme::DedicatedImage(image) => (Buffer(0), image),
     };
@@ -227,10 +258,12 @@ fn dedicated_info(scheme: AllocationScheme, next: *const c_void) -> Option<Memor
 
 /// What memory is asked for, as the driver is told it.
 #[derive(Clone, Copy, Debug)]
-pub(super) struct Purpose {
+pub(super) struct Purpose<'a> {
     pub(super) scheme: AllocationScheme,
     /// Whether shaders may read its address.
     pub(super) device_address: bool,
+    /// What is chained to what the driver is told.
+    pub(super) next: Option<Chain<'a>>,
 }
 
 /// What the driver answers.

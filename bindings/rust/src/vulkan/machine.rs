@@ -258,6 +258,15 @@ impl Machine {
         Some(index)
     }
 
+    /// The sum of the sizes of a memory type's blocks in bytes, if it is there.
+    pub(super) fn type_capacity(&self, memory_type: usize) -> Option<u64> {
+        let mut bytes = 0;
+        // SAFETY: the handle is this machine's alone: it isn't `Sync`.
+        check(unsafe { raw::pilhangko_raw_allocator_type_capacity(self.handle.as_ptr(), memory_type, &mut bytes) })
+            .ok()?;
+        Some(bytes)
+    }
+
     /// What is counted of a memory type, if it is there.
     pub(super) fn type_statistics(&self, memory_type: usize) -> Option<TypeStatistics> {
         let mut s = raw::TypeStatistics::default();

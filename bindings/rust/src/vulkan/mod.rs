@@ -1,4 +1,4 @@
-//! The Vulkan allocator, under the names of the crate gpu-allocator. It asks the driver through four function pointers, so that any binding
+//! The Vulkan allocator, under the names of the crate gpu-allocator. It asks the driver through function pointers, so that any binding
 //! of Vulkan serves.
 //!
 //! ```no_run
@@ -30,12 +30,16 @@
 mod abi;
 mod allocation;
 mod allocator;
+mod budgets;
 mod capture;
 mod defragmentation;
 mod device;
 mod flushing;
 mod machine;
+mod options;
 mod reading;
+mod resource_abi;
+mod resources;
 mod shared;
 mod transient;
 mod upload_ring;
@@ -48,11 +52,20 @@ pub use abi::{
 pub(crate) use allocator::{next_owner, out_of_host_memory};
 pub(crate) use machine::location_number;
 
-pub use allocation::Allocation;
+pub use allocation::{Allocation, AllocationBlock};
 pub use allocator::{AllocationCreateDesc, AllocationScheme, Allocator, AllocatorCreateDesc, TypeStatistics};
+pub use budgets::{Heap, HeapBudget};
 pub use capture::{Capture, CaptureEnd};
 pub use defragmentation::{Defragmentation, DefragmentationStatistics, Move, MoveKey};
 pub use device::{Device, DeviceLimits};
+pub use options::{AllocationOptions, Chain};
+pub use resource_abi::{
+    BindMemory, BufferCreateInfo, CreateResource, DestroyResource, FunctionsOf, GetMemoryRequirements,
+    GetMemoryRequirements2, GetPhysicalDeviceMemoryProperties2, ImageCreateInfo, MemoryBudgetProperties,
+    MemoryDedicatedRequirements, MemoryRequirements2, PhysicalDeviceMemoryProperties2, ResourceFunctions,
+    ResourceMemoryRequirementsInfo2,
+};
+pub use resources::Placement;
 pub use shared::SharedAllocator;
 pub use transient::{Transient, TransientCreateDesc, TransientPlace, TransientResource, TransientSet};
 pub use upload_ring::{Upload, UploadRing};

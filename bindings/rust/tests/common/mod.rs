@@ -1,4 +1,4 @@
-//! A Vulkan driver for tests, by six functions over a state that tests look at, and random numbers that are the same on each run.
+//! A Vulkan driver for tests, by functions over a state that tests look at, and random numbers that are the same on each run.
 #![allow(dead_code, missing_docs)]
 
 use pilhangko::vulkan::{
@@ -13,6 +13,7 @@ use std::ptr;
 use std::sync::{Mutex, MutexGuard, PoisonError};
 
 pub mod account;
+pub mod resources;
 pub mod script;
 
 pub const MB: u64 = 1 << 20;
@@ -24,12 +25,14 @@ pub enum Refusal {
     Null,
 }
 
-/// A question is for memory, for its mapping, or to make its bytes visible.
+/// A question is for memory, for its mapping, to make its bytes visible, for a buffer or an image, or to bind one.
 #[derive(Clone, Copy, Debug, PartialEq, Eq)]
 pub enum Question {
     Memory,
     Mapping,
     Visible,
+    Create,
+    Bind,
 }
 
 /// What memory was asked for.
@@ -40,6 +43,9 @@ pub struct Asked {
     pub buffer: Buffer,
     pub image: Image,
     pub device_address: bool,
+    /// What a request's own chain says: a priority in hundredths, handle types for export.
+    pub priority: u32,
+    pub handle_types: u32,
 }
 
 /// Memory that the driver holds.
@@ -72,6 +78,11 @@ pub struct State {
     pub visible: Vec<Visible>,
     /// What the driver was misused for.
     pub faults: Vec<String>,
+    /// The buffers and images that there are, by handle, and what the next one needs.
+    pub resources: BTreeMap<u64, resources::Made>,
+    pub needs: resources::Needs,
+    /// What the driver tells of heap 0: usage and budget; one byte more of each heap behind it.
+    pub told: (u64, u64),
     last_handle: u64,
 }
 
@@ -210,6 +221,7 @@ impl FakeDriver {
     /// Nothing is held, and nothing was misused.
     pub fn assert_left_empty(&self) {
         let state = self.state();
+        assert!(state.resources.is_empty(), "{:?}", state.resources);
         assert!(state.held.is_empty(), "{:?}", state.held);
         assert_eq!(state.faults, [""; 0]);
     }
@@ -225,7 +237,19 @@ unsafe fn driver<'a>(device: *mut c_void) -> &'a FakeDriver {
     unsafe { &*device.cast::<FakeDriver>() }
 }
 
-/// What is asked for, and what is chained to it.
+/// `VkMemoryPriorityAllocateInfoEXT` and `VkExportMemoryAllocateInfo`.
+#[repr(C)]
+#[derive(Debug)]
+pub struct Chained<T> {
+    pub s_type: i32,
+    pub next: *const c_void,
+    pub value: T,
+}
+
+pub const PRIORITY: i32 = 1_000_238_001;
+pub const EXPORT: i32 = 1_000_072_002;
+
+/// What is asked for, and what is chained to it, each struct once.
 ///
 /// # Safety
 ///
@@ -233,19 +257,35 @@ unsafe fn driver<'a>(device: *mut c_void) -> &'a FakeDriver {
 unsafe fn asked(info: &MemoryAllocateInfo) -> Asked {
     let mut asked = Asked { size: info.allocation_size, memory_type: info.memory_type_index, ..Asked::default() };
     assert_eq!(info.s_type, MemoryAllocateInfo::STRUCTURE_TYPE);
-    let mut next = info.next;
+    let (mut next, mut read) = (info.next, Vec::new());
     while !next.is_null() {
         // SAFETY: each struct of a chain begins with its type.
-        match unsafe { *next.cast::<i32>() } {
+        let s_type = unsafe { *next.cast::<i32>() };
+        assert!(!read.contains(&s_type), "{s_type} is chained twice");
+        read.push(s_type);
+        match s_type {
+            PRIORITY => {
+                // SAFETY: the type says which struct it is.
+                let info = unsafe { &*next.cast::<Chained<f32>>() };
+                asked.priority = (info.value * 100.0) as u32;
+                next = info.next;
+            }
+            EXPORT => {
+                // SAFETY: the type says which struct it is.
+                let info = unsafe { &*next.cast::<Chained<u32>>() };
+                asked.handle_types = info.value;
+                next = info.next;
+            }
             MemoryAllocateFlagsInfo::STRUCTURE_TYPE => {
                 // SAFETY: the type says which struct it is.
                 let info = unsafe { &*next.cast::<MemoryAllocateFlagsInfo>() };
-                asked.device_address = info.flags == MemoryAllocateFlagsInfo::DEVICE_ADDRESS;
+                asked.device_address = info.flags & MemoryAllocateFlagsInfo::DEVICE_ADDRESS != 0;
                 next = info.next;
             }
             MemoryDedicatedAllocateInfo::STRUCTURE_TYPE => {
                 // SAFETY: the type says which struct it is.
                 let info = unsafe { &*next.cast::<MemoryDedicatedAllocateInfo>() };
+                assert_ne!((info.buffer, info.image), (Buffer(0), Image(0)));
                 (asked.buffer, asked.image) = (info.buffer, info.image);
                 next = info.next;
             }

@@ -1,0 +1,396 @@
+//! What requests ask for beside what is needed, buffers and images with memory, budgets by the driver and words of the owner's, over a driver
+//! of the test's.
+#![allow(missing_docs)]
+
+mod common;
+
+use common::resources::{Alone, Needs};
+use common::{Asked, Chained, FakeDriver, Question, Refusal, EXPORT, MB, PRIORITY};
+use pilhangko::vulkan::{
+    Allocation, AllocationBlock, AllocationCreateDesc, AllocationOptions, AllocationScheme, Allocator,
+    AllocatorCreateDesc, Buffer, BufferCreateInfo, Chain, Device, Heap, HeapBudget, Image, ImageCreateInfo,
+    MemoryAllocateFlagsInfo, MemoryRequirements, Placement,
+};
+use pilhangko::{AllocationError, AllocationSizes, Fault, MemoryLocation, Result};
+use std::ffi::c_void;
+use std::ptr::{null, NonNull};
+
+/// The device's own; the host's; both, in a small heap; the host's, which needs flushes.
+const TYPES: [(u32, u32); 4] = [(1, 0), (6, 1), (7, 2), (10, 1)];
+const HEAPS: [u64; 3] = [1024 * MB, 512 * MB, 24 * MB];
+
+fn driver() -> Box<FakeDriver> {
+    let driver = FakeDriver::new(&TYPES, &HEAPS, 1024).with_atoms(64);
+    driver.state().needs = Needs { alignment: 16, memory_type_bits: 15, alone: Alone::No };
+    driver
+}
+
+fn made(device: Device) -> Allocator {
+    let allocation_sizes = AllocationSizes::new(4 * MB, 4 * MB);
+    let desc =
+        AllocatorCreateDesc { allocation_sizes, buffer_device_address: true, ..AllocatorCreateDesc::new(device) };
+    Allocator::new(&desc).expect("the device makes sense")
+}
+
+fn request(size: u64, alignment: u64, bits: u32, location: MemoryLocation) -> AllocationCreateDesc<'static> {
+    AllocationCreateDesc {
+        name: "piece",
+        requirements: MemoryRequirements { size, alignment, memory_type_bits: bits },
+        location,
+        linear: true,
+        allocation_scheme: AllocationScheme::GpuAllocatorManaged,
+    }
+}
+
+fn memory(it: &Allocation) -> u64 {
+    // SAFETY: the handle is only looked up.
+    unsafe { it.memory() }.0
+}
+
+fn asked_for(driver: &FakeDriver, it: &Allocation) -> Asked {
+    driver.state().held[&memory(it)].asked
+}
+
+fn fault(text: &'static str, code: Option<i64>) -> AllocationError {
+    AllocationError::Internal(Fault { text, code })
+}
+
+/// A priority of three quarters, and one handle type for export.
+fn exported() -> Chained<u32> {
+    Chained { s_type: EXPORT, next: null(), value: 1 }
+}
+
+fn priority(next: &Chained<u32>) -> Chained<f32> {
+    Chained { s_type: PRIORITY, next: (&raw const *next).cast(), value: 0.75 }
+}
+
+fn chain<T>(first: &T) -> Chain<'_> {
+    let first: *const T = first;
+    // SAFETY: the structs live as long as they are borrowed, and the driver reads them.
+    unsafe { Chain::new(NonNull::new(first.cast_mut().cast::<c_void>()).expect("a struct has an address")) }
+}
+
+/// Behind one byte a piece begins at its alignment.
+#[test]
+fn the_greater_alignment_counts() {
+    let driver = driver();
+    let mut a = made(driver.device());
+    let rows = [
+        (1, 4, None, Some(4)),
+        (1, 4, Some(1), Some(4)),
+        (1, 4, Some(256), Some(256)),
+        (1, 256, Some(4), Some(256)),
+        (8, 4, Some(16), Some(64)), // memory that needs flushes
+        (8, 4, Some(128), Some(128)),
+        (1, 4, Some(3), None),
+        (1, 4, Some(0), None),
+        (1, 3, Some(4), None),
+        (1, 4, Some(u64::MAX), None),
+    ];
+    for (bits, needed, minimal_alignment, offset) in rows {
+        let first = a.allocate(&request(1, 1, bits, MemoryLocation::Unknown)).unwrap();
+        let options = AllocationOptions { minimal_alignment, ..AllocationOptions::default() };
+        let it = a.allocate_with(&request(100, needed, bits, MemoryLocation::Unknown), &options);
+        let invalid = AllocationError::InvalidAllocationCreateDesc;
+        assert_eq!(it.as_ref().map(Allocation::offset), offset.ok_or(&invalid), "{needed} {minimal_alignment:?}");
+        [it.ok(), Some(first)].into_iter().flatten().for_each(|it| a.free(it).unwrap());
+    }
+    drop(a);
+    driver.assert_left_empty();
+}
+
+#[test]
+fn fewer_memory_types_serve() {
+    let driver = driver();
+    let mut a = made(driver.device());
+    let rows = [
+        (MemoryLocation::GpuOnly, 15, None, Some(0)),
+        (MemoryLocation::GpuOnly, 15, Some(u32::MAX), Some(0)),
+        (MemoryLocation::GpuOnly, 15, Some(4), Some(2)),
+        (MemoryLocation::GpuOnly, 15, Some(2), None),
+        (MemoryLocation::CpuToGpu, 15, Some(2), Some(1)),
+        (MemoryLocation::Unknown, 15, Some(8), Some(3)),
+        (MemoryLocation::Unknown, 1, Some(2), None),
+        (MemoryLocation::Unknown, 15, Some(0), None),
+    ];
+    for (location, needed, memory_type_bits, index) in rows {
+        let options = AllocationOptions { memory_type_bits, ..AllocationOptions::default() };
+        let it = a.allocate_with(&request(100, 4, needed, location), &options);
+        let none = AllocationError::NoCompatibleMemoryTypeFound;
+        assert_eq!(it.as_ref().map(Allocation::memory_type_index), index.ok_or(&none));
+        it.into_iter().for_each(|it| a.free(it).unwrap());
+    }
+    drop(a);
+    driver.assert_left_empty();
+}
+
+/// A request with a chain has memory of its own, and each attempt has the chain.
+#[test]
+fn chains_go_to_the_driver() {
+    let driver = driver();
+    let mut a = made(driver.device());
+    let exported = exported();
+    let priority = priority(&exported);
+    let options = AllocationOptions { next: Some(chain(&priority)), ..AllocationOptions::default() };
+    let plain = a.allocate(&request(100, 4, 15, MemoryLocation::GpuOnly)).unwrap();
+    let whole = Asked { size: 4 * MB, device_address: true, ..Asked::default() };
+    assert_eq!(asked_for(&driver, &plain), whole);
+    let own = a.allocate_with(&request(100, 4, 15, MemoryLocation::GpuOnly), &options).unwrap();
+    let alone = Asked { size: 100, priority: 75, handle_types: 1, ..whole };
+    assert_eq!((asked_for(&driver, &own), own.is_dedicated(), own.offset()), (alone, true, 0));
+    assert_eq!(a.read_block(&own), Ok(AllocationBlock { size: 100, is_shared: false }));
+    assert_eq!(a.read_block(&plain), Ok(AllocationBlock { size: 4 * MB, is_shared: true }));
+    let named = AllocationCreateDesc {
+        allocation_scheme: AllocationScheme::DedicatedBuffer(Buffer(77)),
+        ..request(100, 4, 1, MemoryLocation::GpuOnly)
+    };
+    let named = a.allocate_with(&named, &options).unwrap();
+    assert_eq!(asked_for(&driver, &named), Asked { buffer: Buffer(77), ..alone });
+    let next = driver.state().questions + 1;
+    driver.refuse(next, Refusal::Code(-2));
+    let upload = a.allocate_with(&request(100, 4, 15, MemoryLocation::CpuToGpu), &options).unwrap();
+    assert_eq!(asked_for(&driver, &upload), Asked { memory_type: 1, ..alone });
+    assert!(upload.mapped_slice().is_some());
+    [plain, own, named, upload].into_iter().for_each(|it| a.free(it).unwrap());
+    drop(a);
+    driver.assert_left_empty();
+}
+
+/// Of a struct that is in the chain the crate chains none: the driver looks for that.
+#[test]
+fn what_the_chain_has_is_left_out() {
+    let driver = driver();
+    let mut a = made(driver.device());
+    let exported = exported();
+    let flags = MemoryAllocateFlagsInfo {
+        s_type: MemoryAllocateFlagsInfo::STRUCTURE_TYPE,
+        next: (&raw const exported).cast(),
+        flags: MemoryAllocateFlagsInfo::DEVICE_ADDRESS | 4, // and the address may be captured
+        device_mask: 0,
+    };
+    let options = AllocationOptions { next: Some(chain(&flags)), ..AllocationOptions::default() };
+    let own = a.allocate_with(&request(100, 4, 1, MemoryLocation::GpuOnly), &options).unwrap();
+    let alone = Asked { size: 100, device_address: true, handle_types: 1, ..Asked::default() };
+    assert_eq!(asked_for(&driver, &own), alone);
+    a.free(own).unwrap();
+    drop(a);
+    driver.assert_left_empty();
+}
+
+// ---- buffers and images
+
+fn buffer(a: &mut Allocator, size: u64, placement: &Placement<'_>) -> Result<(Buffer, Allocation)> {
+    // SAFETY: the driver makes a buffer of any description.
+    unsafe { a.create_buffer(&BufferCreateInfo::new(size, 16), placement) }
+}
+
+fn image_info(width: u32, tiling: i32, flags: u32) -> ImageCreateInfo {
+    ImageCreateInfo {
+        s_type: ImageCreateInfo::STRUCTURE_TYPE,
+        next: null(),
+        flags,
+        image_type: 1,
+        format: 37,
+        extent: [width, 1, 1],
+        mip_levels: 1,
+        array_layers: 1,
+        samples: 1,
+        tiling,
+        usage: 1,
+        sharing_mode: 0,
+        queue_family_index_count: 0,
+        queue_family_indices: null(),
+        initial_layout: 0,
+    }
+}
+
+fn image(a: &mut Allocator, info: &ImageCreateInfo, placement: &Placement<'_>) -> Result<(Image, Allocation)> {
+    // SAFETY: the driver makes an image of any description.
+    unsafe { a.create_image(info, placement) }
+}
+
+fn destroy(a: &mut Allocator, buffer: Buffer, allocation: Allocation) {
+    // SAFETY: the buffer is bound there.
+    unsafe { a.destroy_buffer(buffer, allocation) }.unwrap();
+}
+
+#[test]
+fn buffers_and_images_are_bound_where_they_lie() {
+    let driver = driver();
+    let mut a = made(driver.whole_device());
+    let gpu = Placement::new("resource", MemoryLocation::GpuOnly);
+    let (first, at_first) = buffer(&mut a, 90, &gpu).unwrap();
+    let (linear, at_linear) = image(&mut a, &image_info(90, ImageCreateInfo::LINEAR, 0), &gpu).unwrap();
+    let (pages, at_pages) = image(&mut a, &image_info(90, 0, 0), &gpu).unwrap();
+    assert_eq!([&at_first, &at_linear, &at_pages].map(Allocation::offset), [0, 128, 1024]); // a page of its own
+    let bound = |handle: u64| driver.state().resources[&handle].bound;
+    let block = memory(&at_first);
+    assert_eq!([first.0, linear.0, pages.0].map(bound), [0, 128, 1024].map(|offset| Some((block, offset))));
+    assert_eq!((at_first.size(), at_first.name(), at_first.is_dedicated()), (96, Some("resource"), false));
+    let options = AllocationOptions { minimal_alignment: Some(4096), ..AllocationOptions::default() };
+    let (aligned, at_aligned) = buffer(&mut a, 10, &Placement { options, ..gpu }).unwrap();
+    assert_eq!(at_aligned.offset(), 4096);
+    let (own, at_own) = buffer(&mut a, 90, &Placement { dedicated: true, ..gpu }).unwrap();
+    assert_eq!(asked_for(&driver, &at_own).buffer, own);
+    let other = made(driver.whole_device()).allocate(&request(1, 1, 1, MemoryLocation::GpuOnly)).unwrap();
+    // SAFETY: the allocation isn't this allocator's, and nothing is done.
+    let (error, _) = unsafe { a.destroy_buffer(first, other) }.unwrap_err();
+    assert_eq!(error, fault("Allocation does not belong to this allocator.", None));
+    assert_eq!(driver.state().resources.len(), 5);
+    [(first, at_first), (aligned, at_aligned), (own, at_own)].into_iter().for_each(|(it, at)| destroy(&mut a, it, at));
+    for (it, at) in [(linear, at_linear), (pages, at_pages)] {
+        // SAFETY: the image is bound there.
+        unsafe { a.destroy_image(it, at) }.unwrap();
+    }
+    drop(a);
+    driver.assert_left_empty();
+}
+
+/// Memory of its own where the driver requires it, and where it prefers it and there is such memory.
+#[test]
+fn the_driver_says_who_lies_alone() {
+    for (alone, is_old, refused, dedicated) in [
+        (Alone::No, false, false, Ok(false)),
+        (Alone::Prefers, false, false, Ok(true)),
+        (Alone::Prefers, false, true, Ok(false)),
+        (Alone::Prefers, true, false, Ok(false)),
+        (Alone::Requires, false, false, Ok(true)),
+        (Alone::Requires, false, true, Err(AllocationError::OutOfMemory)),
+    ] {
+        let driver = driver();
+        let mut a = made(if is_old { driver.old_device() } else { driver.whole_device() });
+        driver.state().needs.alone = alone;
+        if refused {
+            driver.refuse(2, Refusal::Null);
+        }
+        let it = buffer(&mut a, 90, &Placement::new("resource", MemoryLocation::GpuOnly));
+        assert_eq!(it.as_ref().map(|(_, at)| at.is_dedicated()).map_err(|error| *error), dedicated);
+        it.into_iter().for_each(|(it, at)| destroy(&mut a, it, at));
+        drop(a);
+        driver.assert_left_empty();
+    }
+    let driver = driver();
+    let mut a = made(driver.whole_device());
+    let exported = exported();
+    let options = AllocationOptions { next: Some(chain(&exported)), ..AllocationOptions::default() };
+    let chained = Placement { options, ..Placement::new("shared with others", MemoryLocation::GpuOnly) };
+    driver.state().needs.alone = Alone::Prefers;
+    driver.refuse(2, Refusal::Null);
+    assert_eq!(buffer(&mut a, 90, &chained).map(|_| ()), Err(AllocationError::OutOfMemory)); // nothing is shared in its place
+    let (it, at) = buffer(&mut a, 90, &chained).unwrap();
+    assert_eq!((asked_for(&driver, &at).buffer, asked_for(&driver, &at).handle_types), (it, 1));
+    destroy(&mut a, it, at);
+    drop(a);
+    driver.assert_left_empty();
+}
+
+/// What can't be made leaves nothing.
+#[test]
+fn resources_are_refused_by_their_cause() {
+    let driver = driver();
+    let mut a = made(driver.whole_device());
+    let gpu = Placement::new("resource", MemoryLocation::GpuOnly);
+    let sparse = BufferCreateInfo { flags: 1, ..BufferCreateInfo::new(90, 16) };
+    // SAFETY: the driver isn't asked.
+    let refused = unsafe { a.create_buffer(&sparse, &gpu) };
+    assert_eq!(refused.map(|_| ()), Err(AllocationError::InvalidAllocationCreateDesc));
+    for flags in [1, 0x200] {
+        let refused = image(&mut a, &image_info(90, 0, flags), &gpu).map(|_| ());
+        assert_eq!(refused, Err(AllocationError::InvalidAllocationCreateDesc));
+    }
+    assert_eq!(driver.state().questions, 0);
+    let odd = AllocationOptions { minimal_alignment: Some(48), ..AllocationOptions::default() };
+    let refused = buffer(&mut a, 90, &Placement { options: odd, ..gpu }).map(|_| ());
+    assert_eq!(refused, Err(AllocationError::InvalidAllocationCreateDesc));
+    drop(a);
+    driver.assert_left_empty();
+    let mut a = made(driver.device());
+    let refused = buffer(&mut a, 90, &gpu).map(|_| ());
+    assert_eq!(refused, Err(fault("The device has no functions for buffers and images.", None)));
+}
+
+/// One question after the other: the buffer, its memory, the mapping, the binding.
+#[test]
+fn each_question_for_a_resource_is_refused_in_turn() {
+    for (question, refusal, expected) in [
+        (1, Refusal::Code(-1), fault("vkCreateBuffer failed", Some(-1))),
+        (1, Refusal::Null, fault("vkCreateBuffer failed", None)),
+        (2, Refusal::Code(-4), fault("Unexpected error in vkAllocateMemory", Some(-4))),
+        (2, Refusal::Null, AllocationError::OutOfMemory),
+        (3, Refusal::Code(-5), AllocationError::FailedToMap(Fault { text: "vkMapMemory failed", code: Some(-5) })),
+        (4, Refusal::Code(-2), fault("vkBindBufferMemory failed", Some(-2))),
+    ] {
+        let driver = driver();
+        let mut a = made(driver.whole_device());
+        let readback = Placement::new("readback", MemoryLocation::GpuToCpu);
+        driver.refuse(question, refusal);
+        assert_eq!(buffer(&mut a, 90, &readback).map(|_| ()), Err(expected));
+        assert_eq!((driver.state().resources.len(), a.statistics().pieces), (0, 0));
+        let (it, at) = buffer(&mut a, 90, &readback).unwrap();
+        destroy(&mut a, it, at);
+        assert_eq!(driver.state().refused.len(), 1);
+        drop(a);
+        driver.assert_left_empty();
+    }
+    let driver = driver();
+    let mut a = made(driver.whole_device());
+    driver.refuse(3, Refusal::Code(-2));
+    let refused = image(&mut a, &image_info(90, 0, 0), &Placement::new("target", MemoryLocation::GpuOnly)).map(|_| ());
+    assert_eq!(refused, Err(fault("vkBindImageMemory failed", Some(-2))));
+    assert_eq!(driver.state().refused, [(Question::Bind, Refusal::Code(-2))]);
+    drop(a);
+    driver.assert_left_empty();
+}
+
+// ---- budgets, and words of the owner's
+
+#[test]
+fn budgets_follow_the_driver() {
+    let driver = driver();
+    let mut a = made(driver.whole_device());
+    let first = a.allocate(&request(100, 4, 1, MemoryLocation::Unknown)).unwrap();
+    driver.state().told = (10 * MB, 30 * MB);
+    let told = HeapBudget { usage: 10 * MB, budget: 30 * MB };
+    assert_eq!(a.read_heap(0), Some(Heap { size: 1024 * MB, flags: 0, held: 4 * MB, budget: Some(told) }));
+    let told = HeapBudget { usage: 10 * MB + 2, budget: 30 * MB + 2 };
+    assert_eq!(a.read_heap(2), Some(Heap { size: 24 * MB, flags: 0, held: 0, budget: Some(told) }));
+    assert_eq!(a.read_heap(3), None);
+    a.update_budgets().unwrap();
+    assert_eq!([0, 1, 2, 3].map(|index| a.budget(index)), [24, 20, 20, 20].map(|bytes| Some(bytes * MB)));
+    driver.state().told = (30 * MB, 10 * MB); // nothing is left
+    a.update_budgets().unwrap();
+    assert_eq!([0, 1].map(|index| a.budget(index)), [Some(4 * MB), Some(0)]);
+    let refused = a.allocate(&request(100, 4, 2, MemoryLocation::Unknown)).map(|_| ());
+    assert_eq!(refused, Err(AllocationError::BudgetExceeded));
+    driver.state().told = (0, u64::MAX - 16);
+    a.update_budgets().unwrap();
+    assert_eq!(a.budget(0), Some(u64::MAX));
+    assert_eq!((a.type_capacity(0), a.type_capacity(1), a.type_capacity(4)), (Some(4 * MB), Some(0), None));
+    a.free(first).unwrap();
+    drop(a);
+    let mut a = made(driver.device());
+    assert_eq!(a.update_budgets(), Err(fault("The device tells of no budgets.", None)));
+    assert_eq!(a.read_heap(1), Some(Heap { size: 512 * MB, flags: 0, held: 0, budget: None }));
+    drop(a);
+    driver.assert_left_empty();
+}
+
+#[test]
+fn an_allocation_keeps_a_word() {
+    let driver = driver();
+    let mut a = made(driver.device());
+    let wanted = request(2 * MB, 4, 2, MemoryLocation::Unknown);
+    let mut live: Vec<Allocation> = (0..4).map(|_| a.allocate(&wanted).unwrap()).collect();
+    assert!(live.iter().all(|it| it.user_data() == 0));
+    live[0].set_user_data(u64::MAX);
+    a.rename_allocation(&mut live[0], "renamed").unwrap();
+    a.free(live.remove(2)).unwrap();
+    let to = a.propose_move(&live[0], &wanted).unwrap().unwrap();
+    assert_eq!((live[0].user_data(), to.user_data(), live[1].user_data()), (u64::MAX, u64::MAX, 0));
+    live.push(to);
+    live.into_iter().for_each(|it| a.free(it).unwrap());
+    let null = Allocation::default();
+    assert_eq!((null.user_data(), a.read_block(&null).is_err()), (0, true));
+    drop(a);
+    driver.assert_left_empty();
+}
