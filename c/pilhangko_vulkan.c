@@ -2,6 +2,7 @@
  * allocator wants to know; the allocator decides all else, and keeps what it decided. */
 #include "pilhangko_vulkan_resource.h"
 #include "pilhangko_vulkan_capture.h"
+#include "pilhangko_vulkan_request.h"
 #include "pilhangko_shared.h"
 
 /* ---- records ---- */
@@ -12,13 +13,6 @@ struct live {
     uint64_t serial; /* 0 of a spare record */
     pilhangko_allocator_piece piece;
     uint64_t user_data;
-};
-
-/* What the allocator is asked for, and the chain that goes with the questions to the driver. */
-struct wanted {
-    pilhangko_allocator_request asks;
-    const void *next;
-    const char *name;
 };
 
 struct binding {
@@ -52,10 +46,6 @@ static void leave(struct binding *b) {
     if (!b->is_locked_outside) unlock_mutex(&b->lock);
 }
 
-static bool is_power_of_two(VkDeviceSize n) {
-    return n != 0 && (n & (n - 1)) == 0;
-}
-
 /* The record of an allocation, or NULL where it isn't live or another binding's. */
 static const struct live *find(const struct binding *b, const pilhangko_vulkan_allocation *allocation) {
     const struct live *it;
@@ -70,11 +60,15 @@ static bool is_captured(const struct binding *b) {
     return goes_on(&b->capture);
 }
 
-/* The call `allocate`. An allocation is called by its serial number; one that was refused by the next one's. */
-static void capture_call(struct binding *b, const struct wanted *wanted, pilhangko_status status, const struct asked *asked) {
+/* The call `allocate`. An allocation is called by its serial number; one that was refused by the next one's. One that flags chose the memory for
+ * is one of its memory type alone; where it was refused it changed nothing, and isn't captured. */
+static void capture_call(struct binding *b, const struct wanted *wanted, pilhangko_status status, size_t type, const struct asked *asked) {
+    pilhangko_allocator_request asks = wanted->asks;
     if (!is_captured(b) || status == PILHANGKO_HOST_OUT_OF_MEMORY || status == PILHANGKO_INVALID) return;
+    if (wanted->by_flags && status != PILHANGKO_OK) return;
+    if (wanted->by_flags) asks.memory_type_bits = UINT32_C(1) << type;
     capture_new_budgets(&b->capture, &b->allocator, b->properties.memoryTypeCount);
-    capture_allocation(&b->capture, b->last_serial + 1, &wanted->asks, wanted->name, asked);
+    capture_allocation(&b->capture, b->last_serial + 1, &asks, wanted->name, asked);
 }
 
 /* The call `propose_move` of the allocation with this serial number, whether there was a second place or none. */
@@ -171,41 +165,6 @@ static pilhangko_status ask(
 
 /* ---- memory ---- */
 
-/* Whether a memory type that the bits allow needs flushes. */
-static bool may_need_flushes(const struct binding *b, uint32_t bits) {
-    const VkMemoryPropertyFlags both = VK_MEMORY_PROPERTY_HOST_VISIBLE_BIT | VK_MEMORY_PROPERTY_HOST_COHERENT_BIT;
-    for (uint32_t i = 0; i < b->properties.memoryTypeCount; i++)
-        if ((bits >> i & 1) && (b->properties.memoryTypes[i].propertyFlags & both) == VK_MEMORY_PROPERTY_HOST_VISIBLE_BIT) return true;
-    return false;
-}
-
-/* The greater of two alignments, where the second isn't 0, which is none. 0, which the allocator refuses, where one is no power of two. */
-static VkDeviceSize greater_alignment(VkDeviceSize needed, VkDeviceSize wanted) {
-    if (wanted == 0) return needed;
-    if (!is_power_of_two(needed) || !is_power_of_two(wanted)) return 0;
-    return needed > wanted ? needed : wanted;
-}
-
-/* What the allocator is asked for. Memory with a chain is a piece's own: for a buffer alone that isn't named, where no resource is. */
-static pilhangko_status asks_for(const struct binding *b, const pilhangko_vulkan_request *request, struct wanted *wanted) {
-    const bool for_buffer = request->scheme == PILHANGKO_SCHEME_BUFFER, for_image = request->scheme == PILHANGKO_SCHEME_IMAGE;
-    pilhangko_allocator_request *asks = &wanted->asks;
-    if ((for_buffer && request->buffer == VK_NULL_HANDLE) || (for_image && request->image == VK_NULL_HANDLE)) return PILHANGKO_INVALID;
-    wanted->next = request->next;
-    wanted->name = request->name;
-    asks->size = request->requirements.size;
-    asks->alignment = greater_alignment(request->requirements.alignment, request->minimal_alignment);
-    asks->memory_type_bits = request->requirements.memoryTypeBits;
-    if (request->memory_type_bits != 0) asks->memory_type_bits &= request->memory_type_bits;
-    asks->kind = request->kind;
-    asks->location = request->location;
-    asks->scheme = request->next && request->scheme == PILHANGKO_SCHEME_MANAGED ? PILHANGKO_SCHEME_BUFFER : request->scheme;
-    asks->resource = for_buffer ? (uint64_t)request->buffer : for_image ? (uint64_t)request->image : 0;
-    if (asks->alignment < b->atom && is_power_of_two(asks->alignment) && may_need_flushes(b, asks->memory_type_bits))
-        asks->alignment = b->atom;
-    return PILHANGKO_OK;
-}
-
 /* Keeps a piece as a live allocation, and tells it. */
 static void keep_allocation(
     struct binding *b, const pilhangko_allocator_piece *piece, bool dedicated, pilhangko_vulkan_allocation *allocation) {
@@ -225,20 +184,29 @@ static void keep_allocation(
     allocation->index = index;
 }
 
+static pilhangko_status begin(struct binding *b, const struct wanted *wanted, pilhangko_allocator_progress *progress) {
+    if (wanted->by_flags) return pilhangko_allocator_begin_by_flags(&b->allocator, &wanted->asks, wanted->name, &wanted->preference, progress);
+    return pilhangko_allocator_begin(&b->allocator, &wanted->asks, wanted->name, progress);
+}
+
 static pilhangko_vulkan_result allocate_alone(
     struct binding *b, const pilhangko_vulkan_request *request, pilhangko_vulkan_allocation *allocation) {
     struct wanted wanted;
     pilhangko_allocator_progress progress;
     struct asked asked;
-    pilhangko_status status = asks_for(b, request, &wanted);
+    pilhangko_status status = asks_for(&b->properties, b->atom, request, &wanted);
     if (status != PILHANGKO_OK) return undriven(status);
     /* before the driver is asked, so that nothing can fail behind its grant */
     if (!has_spare(&b->live)) return undriven(PILHANGKO_HOST_OUT_OF_MEMORY);
     memset(&asked, 0, sizeof asked);
-    status = pilhangko_allocator_begin(&b->allocator, &wanted.asks, wanted.name, &progress);
-    while (status == PILHANGKO_OK && progress.kind == PILHANGKO_PROGRESS_QUESTION) status = ask(b, &wanted, &asked, &progress);
+    status = begin(b, &wanted, &progress);
+    while (status == PILHANGKO_OK && progress.kind == PILHANGKO_PROGRESS_QUESTION) {
+        if (wanted.by_flags) forget_questions(&asked);
+        status = ask(b, &wanted, &asked, &progress);
+    }
     if (status == PILHANGKO_OK) status = progress.status;
-    capture_call(b, &wanted, status, &asked);
+    if (status == PILHANGKO_OK && wanted.by_flags && asked.refusals > 0) forget_questions(&asked); /* the last one's place was there */
+    capture_call(b, &wanted, status, status == PILHANGKO_OK ? progress.piece.memory_type : 0, &asked);
     if (status != PILHANGKO_OK) return result_of(status, asked.driver);
     keep_allocation(b, &progress.piece, wanted.asks.scheme != PILHANGKO_SCHEME_MANAGED, allocation);
     return undriven(PILHANGKO_OK);
@@ -300,7 +268,7 @@ static pilhangko_status propose_alone(struct binding *b, const pilhangko_vulkan_
     pilhangko_status status;
     if (!it) return PILHANGKO_NOT_LIVE;
     first = *it; /* the record may lie elsewhere behind has_spare */
-    status = asks_for(b, request, &wanted);
+    status = asks_for(&b->properties, b->atom, request, &wanted);
     if (status != PILHANGKO_OK) return status;
     if (!has_spare(&b->live)) return PILHANGKO_HOST_OUT_OF_MEMORY;
     status = pilhangko_allocator_propose_move(&b->allocator, &first.piece, &wanted.asks, wanted.name, moves, &place);
@@ -585,7 +553,8 @@ static pilhangko_vulkan_result allocate_for(struct binding *b, const struct reso
     bool may_share;
     memset(&request, 0, sizeof request);
     alone = requirements_of(&b->over, r, &request.requirements);
-    may_share = !placement->dedicated && !placement->next && !alone.requiresDedicatedAllocation;
+    may_share = !placement->dedicated && !placement->next && placement->location != PILHANGKO_VULKAN_LOCATION_TRANSIENT &&
+                !alone.requiresDedicatedAllocation;
     request.location = placement->location;
     request.kind = kind;
     request.scheme = is_image(r) ? PILHANGKO_SCHEME_IMAGE : PILHANGKO_SCHEME_BUFFER;
@@ -596,6 +565,10 @@ static pilhangko_vulkan_result allocate_for(struct binding *b, const struct reso
     request.minimal_alignment = placement->minimal_alignment;
     request.memory_type_bits = placement->memory_type_bits;
     request.next = placement->next;
+    request.required_flags = placement->required_flags;
+    request.preferred_flags = placement->preferred_flags;
+    request.avoided_flags = placement->avoided_flags;
+    request.never_allocate = placement->never_allocate;
     first = allocate(b, &request, allocation);
     if (first.status == PILHANGKO_OK || first.status == PILHANGKO_HOST_OUT_OF_MEMORY) return first;
     if (!may_share || request.scheme == PILHANGKO_SCHEME_MANAGED) return first;

@@ -25,6 +25,12 @@ static inline void note_refusal(struct asked *asked, bool is_null, int32_t code,
     if (driver != VK_SUCCESS) asked->driver = driver;
 }
 
+/* Questions of attempts that are over, where only the last one's are captured. */
+static inline void forget_questions(struct asked *asked) {
+    asked->questions = 0;
+    asked->refusals = 0;
+}
+
 /* The device's lines. Each is written by itself, so that LINE_ROOM is enough. */
 static inline void capture_device(
     struct capture *c, const VkPhysicalDeviceMemoryProperties *p, const pilhangko_allocator_settings *s) {

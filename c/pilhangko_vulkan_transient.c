@@ -236,6 +236,7 @@ pilhangko_vulkan_result PILHANGKO_CALL pilhangko_vulkan_create_transient(pilhang
     status = pilhangko_vulkan_read_device(vulkan, &w.device);
     if (status != PILHANGKO_OK) return undriven(status);
     if (transient->places || transient->sets) return undriven(PILHANGKO_IN_USE);
+    if (location > PILHANGKO_LOCATION_GPU_TO_CPU) return undriven(PILHANGKO_INVALID);
     for (size_t i = 0; i < count; i++)
         if (!can_be_made(&resources[i])) return undriven(PILHANGKO_INVALID);
     if (count == 0) return undriven(PILHANGKO_OK);

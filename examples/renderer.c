@@ -24,29 +24,36 @@ static void check(pilhangko_status status) {
     if (status != PILHANGKO_OK) fail(pilhangko_status_text(status), (long)status);
 }
 
-static void make_buffer(struct resource *r, VkDeviceSize bytes, pilhangko_location location, bool dedicated, const char *name) {
+static void make_buffer(struct resource *r, VkDeviceSize bytes, const pilhangko_vulkan_placement *placement) {
     const VkBufferCreateInfo info = {.sType = VK_STRUCTURE_TYPE_BUFFER_CREATE_INFO, .size = r->bytes = bytes,
         .usage = VK_BUFFER_USAGE_TRANSFER_SRC_BIT | VK_BUFFER_USAGE_TRANSFER_DST_BIT};
-    const pilhangko_vulkan_placement placement = {.location = location, .dedicated = dedicated, .name = name};
-    check(pilhangko_vulkan_create_buffer(&vulkan, &info, &placement, &r->buffer, &r->allocation).status);
+    check(pilhangko_vulkan_create_buffer(&vulkan, &info, placement, &r->buffer, &r->allocation).status);
     reply_place(&r->allocation);
 }
 
-static void make_image(struct resource *r, uint32_t width, uint32_t height, const char *name) {
+static void make_image(struct resource *r, uint32_t width, uint32_t height, const pilhangko_vulkan_placement *placement) {
     const VkImageCreateInfo info = {.sType = VK_STRUCTURE_TYPE_IMAGE_CREATE_INFO, .imageType = VK_IMAGE_TYPE_2D,
         .format = VK_FORMAT_R8G8B8A8_UNORM, .extent = {width, height, 1}, .mipLevels = 1, .arrayLayers = 1,
         .samples = VK_SAMPLE_COUNT_1_BIT, .usage = VK_IMAGE_USAGE_TRANSFER_SRC_BIT | VK_IMAGE_USAGE_TRANSFER_DST_BIT};
-    const pilhangko_vulkan_placement placement = {.location = PILHANGKO_LOCATION_GPU_ONLY, .name = name};
-    check(pilhangko_vulkan_create_image(&vulkan, &info, &placement, &r->image, &r->allocation).status);
+    check(pilhangko_vulkan_create_image(&vulkan, &info, placement, &r->image, &r->allocation).status);
     reply_place(&r->allocation);
     r->extent = info.extent;
     r->bytes = UINT64_C(4) * width * height;
 }
 
-/* A third are images; one in fifty has memory of its own. Sizes are odd, and the same on each run. */
+/* A third are images; some have memory of their own, some by flags in place of a location, some with a chain for the driver. Sizes are odd, and
+ * the same on each run. */
 static void make(unsigned i) {
-    if (i % 3 == 0) make_image(&resources[i], 1 + i * 7 % 61, 1 + i * 11 % 67, "texture");
-    else make_buffer(&resources[i], 4 * (1 + i * 7919 % 16384), PILHANGKO_LOCATION_GPU_ONLY, i % 50 == 1, "vertices");
+    /* a device with VK_KHR_external_memory_fd would name its handle types here */
+    static const VkExportMemoryAllocateInfo exported = {.sType = VK_STRUCTURE_TYPE_EXPORT_MEMORY_ALLOCATE_INFO};
+    static const pilhangko_vulkan_placement texture = {.location = PILHANGKO_LOCATION_GPU_ONLY, .name = "texture"},
+        shared = {.location = PILHANGKO_LOCATION_GPU_ONLY, .name = "shared texture", .next = &exported},
+        vertices = {.location = PILHANGKO_LOCATION_GPU_ONLY, .name = "vertices", .minimal_alignment = 256},
+        own = {.location = PILHANGKO_LOCATION_GPU_ONLY, .dedicated = true, .name = "own vertices"},
+        unseen = {.name = "unseen vertices", .required_flags = VK_MEMORY_PROPERTY_DEVICE_LOCAL_BIT,
+            .avoided_flags = VK_MEMORY_PROPERTY_HOST_VISIBLE_BIT};
+    if (i % 3 == 0) make_image(&resources[i], 1 + i * 7 % 61, 1 + i * 11 % 67, i % 60 ? &texture : &shared);
+    else make_buffer(&resources[i], 4 * (1 + i * 7919 % 16384), i % 50 == 1 ? &own : i % 5 ? &vertices : &unseen);
 }
 
 static void drop(struct resource *r) {
@@ -80,10 +87,12 @@ static void copy_there_and_back(const struct resource *r) {
 
 /* Fills all resources, reads them back and compares. */
 static void fill_and_compare(void) {
+    static const pilhangko_vulkan_placement staging = {.location = PILHANGKO_VULKAN_LOCATION_STAGING, .name = "upload"},
+        back = {.location = PILHANGKO_LOCATION_GPU_TO_CPU, .name = "readback"};
     VkDeviceSize bytes = 0;
     for (unsigned i = 0; i < RESOURCES; bytes += resources[i++].bytes) resources[i].at = bytes;
-    make_buffer(&upload, bytes, PILHANGKO_LOCATION_CPU_TO_GPU, false, "upload");
-    make_buffer(&readback, bytes, PILHANGKO_LOCATION_GPU_TO_CPU, false, "readback");
+    make_buffer(&upload, bytes, &staging);
+    make_buffer(&readback, bytes, &back);
     unsigned char *written = (unsigned char *)pilhangko_vulkan_mapped(&vulkan, &upload.allocation);
     for (VkDeviceSize k = 0; k < bytes; k++) written[k] = (unsigned char)(k * 2654435761u >> 13);
     check(pilhangko_vulkan_flush(&vulkan, &upload.allocation, 0, VK_WHOLE_SIZE).status);

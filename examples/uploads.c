@@ -52,7 +52,7 @@ static void make_rings(struct uploads *u) {
     const pilhangko_vulkan_ring_settings ring = {.size = RING_BYTES,
         .frames = IN_FLIGHT,
         .usage = VK_BUFFER_USAGE_TRANSFER_SRC_BIT,
-        .placement = {.location = PILHANGKO_LOCATION_CPU_TO_GPU, .name = "uploads"}};
+        .placement = {.location = PILHANGKO_VULKAN_LOCATION_STAGING, .name = "uploads"}};
     check(pilhangko_vulkan_ring_create(&u->vulkan, &ring, &u->ring).status);
     const VkBufferCreateInfo info = {
         .sType = VK_STRUCTURE_TYPE_BUFFER_CREATE_INFO, .size = IN_FLIGHT * PART_BYTES, .usage = VK_BUFFER_USAGE_TRANSFER_DST_BIT};

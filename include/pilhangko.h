@@ -381,6 +381,15 @@ typedef struct pilhangko_allocator_request {
     uint64_t resource; /* the VkBuffer or VkImage that it is for alone; it counts where it is for one */
 } pilhangko_allocator_request;
 
+/* Which memory a request takes, by flags of memory types (VkMemoryPropertyFlags) in place of its location. Memory types that have all required
+ * ones serve, and the cheapest is tried first: the one with the least preferred flags missing and avoided ones there, of equal ones the first. */
+typedef struct pilhangko_preference {
+    uint32_t required;
+    uint32_t preferred;
+    uint32_t avoided;
+    bool never_allocate; /* whether only blocks that are there are looked at, and no new one is asked for */
+} pilhangko_preference;
+
 /* A piece: its memory type, the address at which its block is mapped, as granted was told it, and where it lies; piece.block is the driver's
  * memory. Where the address isn't 0, the piece's own bytes begin at address + piece.offset. */
 typedef struct pilhangko_allocator_piece {
@@ -717,6 +726,9 @@ PILHANGKO_NODISCARD PILHANGKO_API pilhangko_status PILHANGKO_CALL pilhangko_raw_
 PILHANGKO_NODISCARD PILHANGKO_API pilhangko_status PILHANGKO_CALL pilhangko_raw_allocator_begin(
     pilhangko_allocator *allocator, const pilhangko_allocator_request *request, const char *name, size_t name_length,
     pilhangko_allocator_progress *progress);
+PILHANGKO_NODISCARD PILHANGKO_API pilhangko_status PILHANGKO_CALL pilhangko_raw_allocator_begin_by_flags(
+    pilhangko_allocator *allocator, const pilhangko_allocator_request *request, const char *name, size_t name_length,
+    const pilhangko_preference *preference, pilhangko_allocator_progress *progress);
 PILHANGKO_NODISCARD PILHANGKO_API pilhangko_status PILHANGKO_CALL pilhangko_raw_allocator_granted(
     pilhangko_allocator *allocator, uint64_t memory, uint64_t address, pilhangko_allocator_piece *piece);
 PILHANGKO_NODISCARD PILHANGKO_API pilhangko_status PILHANGKO_CALL pilhangko_raw_allocator_refused(
@@ -1304,6 +1316,20 @@ PILHANGKO_NODISCARD static inline pilhangko_status pilhangko_allocator_begin(pil
     const pilhangko_allocator_request *request, const char *name, pilhangko_allocator_progress *progress) {
     if (!allocator || !request || !progress) return PILHANGKO_NULL_POINTER;
     return pilhangko_raw_allocator_begin(allocator, request, pilhangko_name_bytes(name), pilhangko_name_length(name), progress);
+}
+
+/* Begins a request whose memory is chosen by flags; its location isn't looked at, but is one of those above. Memory types that serve are tried
+ * from the cheapest on, while one has no room: it is above its heap, its budget, or the driver has refused it for lack of memory. Once the driver
+ * has refused, refused and mapping_refused go on so.
+ * NO_HANDLE. AWAITS_ANSWER. INVALID: the request or the name. NO_MEMORY_TYPE: none serves. Else why the last one that was tried was refused:
+ * OUT_OF_MEMORY: the request is above its heap. HOST_OUT_OF_MEMORY: no other one is tried. And where a block is needed: OUT_OF_MEMORY: none is to be
+ * asked for, or the sum of the blocks' sizes would pass 2^64 - 1. BUDGET_EXCEEDED. */
+PILHANGKO_NODISCARD static inline pilhangko_status pilhangko_allocator_begin_by_flags(pilhangko_allocator *allocator,
+    const pilhangko_allocator_request *request, const char *name, const pilhangko_preference *preference,
+    pilhangko_allocator_progress *progress) {
+    if (!allocator || !request || !preference || !progress) return PILHANGKO_NULL_POINTER;
+    return pilhangko_raw_allocator_begin_by_flags(
+        allocator, request, pilhangko_name_bytes(name), pilhangko_name_length(name), preference, progress);
 }
 
 /* The driver granted the memory that was asked for, and mapped it at that address where it was to be mapped, 0 where it wasn't: says where

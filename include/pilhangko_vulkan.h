@@ -135,7 +135,18 @@ PILHANGKO_API pilhangko_status PILHANGKO_CALL pilhangko_vulkan_destroy(pilhangko
 
 /* ---- Memory ---- */
 
+/* Two locations of this binding's beside those of pilhangko.h, in requests and placements. Staging: the host writes and the GPU reads once, in the
+ * host's memory, and in the device's own only where that has no room. Transient: an attachment that is stored nowhere
+ * (VK_IMAGE_USAGE_TRANSIENT_ATTACHMENT_BIT), in lazily allocated memory where there is such, else in device-local memory; of its own. */
+#define PILHANGKO_VULKAN_LOCATION_STAGING ((pilhangko_location)5)
+#define PILHANGKO_VULKAN_LOCATION_TRANSIENT ((pilhangko_location)6)
+
 /* What memory is wanted for. Zeros behind the name ask for nothing more.
+ *
+ * Where one of the last four fields isn't 0, flags choose the memory in place of the location, which is 0 or UNKNOWN then: memory types that have
+ * all required flags are tried from the cheapest on, while they have no room (pilhangko_preference). So it is with the two locations above, whose
+ * flags are the binding's; never_allocate may stand beside them. Protected, device-coherent and RDMA-capable memory, for which a feature has
+ * to be enabled, then serves only where a required or preferred flag says so.
  *
  * A request with a chain gets memory of its own, and the driver is asked for that with the chain behind the binding's own structs: a priority
  * (VkMemoryPriorityAllocateInfoEXT), handle types for export (VkExportMemoryAllocateInfo), an import .. It is only read, while the call lasts.
@@ -151,6 +162,10 @@ typedef struct pilhangko_vulkan_request {
     VkDeviceSize minimal_alignment; /* a power of two, which counts where the requirements' is less; 0 for none */
     uint32_t memory_type_bits;      /* those of the requirements' memory types that serve; 0 for all of them */
     const void *next;               /* what is chained to VkMemoryAllocateInfo; NULL for nothing */
+    VkMemoryPropertyFlags required_flags;
+    VkMemoryPropertyFlags preferred_flags;
+    VkMemoryPropertyFlags avoided_flags;
+    bool never_allocate; /* whether only memory that is there is looked at, and the driver isn't asked */
 } pilhangko_vulkan_request;
 
 /* An allocation: bind at offset of memory. The calls read the last three fields alone. One that was freed is refused for good
@@ -169,9 +184,10 @@ typedef struct pilhangko_vulkan_allocation {
 
 /* Allocates memory. Where a memory type that the request allows needs flushes, the alignment is nonCoherentAtomSize at least, so that a
  * flush touches no other allocation.
- * NULL_POINTER. NO_HANDLE. INVALID: a null buffer or image that counts. HOST_OUT_OF_MEMORY: the binding's own. Then the causes of
- * pilhangko_allocator_begin (INVALID: a minimal alignment that is no power of two, too), or why the driver refused, as with
- * pilhangko_allocator_refused: OUT_OF_MEMORY, DRIVER_REFUSED or FAILED_TO_MAP. A driver that gives a null handle has no memory left. */
+ * NULL_POINTER. NO_HANDLE. INVALID: a null buffer or image that counts, or a location beside flags. HOST_OUT_OF_MEMORY: the binding's own. Then
+ * the causes of pilhangko_allocator_begin, or of .._begin_by_flags (INVALID: a minimal alignment that is no power of two, too), or why the driver
+ * refused, as with pilhangko_allocator_refused: OUT_OF_MEMORY, DRIVER_REFUSED or FAILED_TO_MAP. A driver that gives a null handle has no
+ * memory left. */
 PILHANGKO_NODISCARD PILHANGKO_API pilhangko_vulkan_result PILHANGKO_CALL pilhangko_vulkan_allocate(
     pilhangko_vulkan *vulkan, const pilhangko_vulkan_request *request, pilhangko_vulkan_allocation *allocation);
 
@@ -321,7 +337,7 @@ PILHANGKO_NODISCARD PILHANGKO_API pilhangko_status PILHANGKO_CALL pilhangko_vulk
 
 /* ---- Buffers and images ---- */
 
-/* Where a buffer or an image goes. The last three are as in a request. */
+/* Where a buffer or an image goes. What stands behind the name is as in a request. */
 typedef struct pilhangko_vulkan_placement {
     pilhangko_location location;
     bool dedicated;   /* whether it shall have memory of its own */
@@ -329,11 +345,15 @@ typedef struct pilhangko_vulkan_placement {
     VkDeviceSize minimal_alignment;
     uint32_t memory_type_bits;
     const void *next;
+    VkMemoryPropertyFlags required_flags;
+    VkMemoryPropertyFlags preferred_flags;
+    VkMemoryPropertyFlags avoided_flags;
+    bool never_allocate;
 } pilhangko_vulkan_placement;
 
 /* Makes a buffer or an image with memory and binds it. It has memory of its own where placement says so or has a chain, or the driver requires
- * it; where the driver prefers it, it has if there is such memory, and else shares. What was made is undone where something fails. Buffers and images
- * that are sparse or disjoint are INVALID: bind these to memory of pilhangko_vulkan_allocate.
+ * it; where the driver prefers it, it has if there is such memory, and else shares. What was made is undone where something fails. Buffers and
+ * images that are sparse or disjoint are INVALID: bind these to memory of pilhangko_vulkan_allocate.
  * NULL_POINTER. NO_HANDLE. INVALID. CALL_FAILED: vkCreate... Then the causes of pilhangko_vulkan_allocate. CALL_FAILED: vkBind... */
 PILHANGKO_NODISCARD PILHANGKO_API pilhangko_vulkan_result PILHANGKO_CALL pilhangko_vulkan_create_buffer(pilhangko_vulkan *vulkan,
     const VkBufferCreateInfo *info, const pilhangko_vulkan_placement *placement, VkBuffer *buffer, pilhangko_vulkan_allocation *allocation);
@@ -451,8 +471,8 @@ typedef struct pilhangko_vulkan_transient {
 /* Makes buffers and images, plans those that can share a memory type together (pilhangko_plan), and binds each set to one allocation. In the
  * order of the resources each one joins the first set with which it shares a memory type that has what the location needs, or begins one;
  * one for which the driver requires memory of its own is a set by itself. What was made is undone where something fails. Buffers and images
- * that are sparse or disjoint, and resources with two infos or none, or whose last pass comes before the first, are INVALID. name is each
- * allocation's; NULL for none. Where count is 0, resources may be NULL.
+ * that are sparse or disjoint, and resources with two infos or none, or whose last pass comes before the first, are INVALID, and so is a location
+ * of this binding's. name is each allocation's; NULL for none. Where count is 0, resources may be NULL.
  *
  * What a resource holds is undefined when its first pass begins: it takes bytes over from others. Between these and it goes a barrier
  * (transient_reuses), and an image begins in VK_IMAGE_LAYOUT_UNDEFINED.

@@ -1,6 +1,8 @@
 /* A plain account of an allocator: memory types (type_account.h), which of them serves a request, and the second attempt of an upload. A
  * request goes to the first memory type that it allows which has all that its location prefers, else to the first one that has all that it
- * needs. A refused upload has one more attempt, at the first memory type that has what uploads need. */
+ * needs. A refused upload has one more attempt, at the first memory type that has what uploads need. A request by flags goes to the memory types
+ * that have all required ones: to the one with the least preferred flags missing and avoided ones there, of equal ones the first, and while one
+ * has no room to the next. */
 #ifndef ALLOCATOR_ACCOUNT_H
 #define ALLOCATOR_ACCOUNT_H
 #include "type_account.h"
@@ -19,6 +21,9 @@ struct allocator_account {
     pilhangko_allocator_request request;
     const char *name;
     bool awaits_answer, is_second; /* whether a question is open, and of which attempt */
+    bool by_flags;                 /* whether flags choose, and not the location */
+    pilhangko_preference preference;
+    uint32_t left; /* by flags: the memory types that weren't tried */
     size_t type;                   /* of the attempt */
     struct placed placed;          /* what the attempt came to */
 };
@@ -41,6 +46,51 @@ static inline pilhangko_memory_request attempt_request(const struct allocator_ac
     pilhangko_memory_request request = {r->size, r->alignment, r->kind, r->scheme != PILHANGKO_SCHEME_MANAGED};
     return request;
 }
+
+/* ---- by flags */
+
+static inline unsigned flag_count(uint32_t flags) {
+    unsigned count = 0;
+    for (unsigned i = 0; i < 32; i++) count += flags >> i & 1;
+    return count;
+}
+
+/* How many preferred flags a memory type lacks, and how many avoided ones it has. */
+static inline unsigned type_cost(const struct allocator_account *a, size_t type) {
+    const uint32_t flags = a->flags[type];
+    return flag_count(a->preference.preferred & ~flags) + flag_count(a->preference.avoided & flags);
+}
+
+/* The cheapest memory type of those that are left, of equal ones the first; or the count of memory types. */
+static inline size_t cheapest_type(const struct allocator_account *a) {
+    size_t best = a->type_count;
+    for (size_t i = 0; i < a->type_count; i++) {
+        if (!(a->left >> i & 1) || (a->flags[i] & a->preference.required) != a->preference.required) continue;
+        if (best == a->type_count || type_cost(a, i) < type_cost(a, best)) best = i;
+    }
+    return best;
+}
+
+static inline bool lacks_room(pilhangko_status status) {
+    return status == PILHANGKO_OUT_OF_MEMORY || status == PILHANGKO_BUDGET_EXCEEDED;
+}
+
+/* The memory types that are left are tried, before which the last one was refused so. */
+static inline pilhangko_status account_go_down(struct allocator_account *a, pilhangko_status last) {
+    const pilhangko_memory_request request = attempt_request(a);
+    for (size_t type = cheapest_type(a); type < a->type_count; type = cheapest_type(a)) {
+        a->type = type;
+        a->left &= ~(UINT32_C(1) << type);
+        last = PILHANGKO_OUT_OF_MEMORY;
+        if (request.size <= a->heap_size[type]) last = type_allocate(&a->types[type], &request, a->name, allocator_capacity(a), &a->placed);
+        if (last == PILHANGKO_OK && a->placed.needs_block && a->preference.never_allocate) last = PILHANGKO_OUT_OF_MEMORY;
+        if (last == PILHANGKO_OK) a->awaits_answer = a->placed.needs_block;
+        if (!lacks_room(last)) break;
+    }
+    return last;
+}
+
+/* ---- by location */
 
 static inline pilhangko_status account_second_attempt(struct allocator_account *a, pilhangko_status refused);
 
@@ -73,16 +123,29 @@ static inline pilhangko_status account_begin_request(
     if (!is_valid_request(request)) return PILHANGKO_INVALID;
     a->request = *request;
     a->name = name;
-    a->is_second = false;
+    a->by_flags = a->is_second = false;
     type = first_type(a, preferred_flags[request->location]);
     if (type == a->type_count) type = first_type(a, required_flags[request->location]);
     if (type == a->type_count) return PILHANGKO_NO_MEMORY_TYPE;
     return account_attempt(a, type);
 }
 
+static inline pilhangko_status account_begin_by_flags(
+    struct allocator_account *a, const pilhangko_allocator_request *request, const char *name, const pilhangko_preference *preference) {
+    if (a->awaits_answer) return PILHANGKO_AWAITS_ANSWER;
+    if (!is_valid_request(request)) return PILHANGKO_INVALID;
+    a->request = *request;
+    a->name = name;
+    a->by_flags = true;
+    a->preference = *preference;
+    a->left = request->memory_type_bits;
+    return account_go_down(a, PILHANGKO_NO_MEMORY_TYPE);
+}
+
 /* The question is answered by a refusal. */
 static inline pilhangko_status account_refused(struct allocator_account *a, pilhangko_status refused) {
     a->awaits_answer = false;
+    if (a->by_flags) return lacks_room(refused) ? account_go_down(a, refused) : refused;
     return account_second_attempt(a, refused);
 }
 

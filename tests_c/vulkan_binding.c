@@ -414,7 +414,7 @@ static void invalid_requests(void) {
         if (field == 3) bad.kind = 0;
         if (field == 4) bad.kind = 3;
         if (field == 5) bad.location = 0;
-        if (field == 6) bad.location = 5;
+        if (field == 6) bad.location = 7;
         if (field == 7) bad.scheme = 0;
         if (field == 8) bad.scheme = 4;
         if (field == 9) bad.name = "\xff";
@@ -632,7 +632,10 @@ static const VkMemoryPriorityAllocateInfoEXT priority = {VK_STRUCTURE_TYPE_MEMOR
 static const pilhangko_vulkan_placement placements[] = {
     {.location = PILHANGKO_LOCATION_GPU_ONLY, .name = "a name that takes host memory of its own", .minimal_alignment = 4096},
     {.location = PILHANGKO_LOCATION_CPU_TO_GPU, .memory_type_bits = 30},
-    {.location = PILHANGKO_LOCATION_GPU_TO_CPU, .dedicated = true, .name = "own", .next = &priority}};
+    {.location = PILHANGKO_LOCATION_GPU_TO_CPU, .dedicated = true, .name = "own", .next = &priority},
+    {.location = PILHANGKO_VULKAN_LOCATION_STAGING, .name = "staging"},
+    {.required_flags = VK_MEMORY_PROPERTY_HOST_VISIBLE_BIT, .avoided_flags = VK_MEMORY_PROPERTY_HOST_COHERENT_BIT, .name = "by flags"}};
+enum { PLACEMENTS = sizeof placements / sizeof *placements };
 
 static pilhangko_vulkan_result makes(pilhangko_vulkan *vulkan, unsigned i, struct thing *t) {
     const uint32_t bytes = 1000 + 2 * MB * (i % 2) + i;
@@ -640,8 +643,8 @@ static pilhangko_vulkan_result makes(pilhangko_vulkan *vulkan, unsigned i, struc
     const VkImageCreateInfo image = image_of(bytes, VK_IMAGE_TILING_OPTIMAL);
     const pilhangko_vulkan_request plain = asks(bytes, 8, PILHANGKO_LOCATION_UNKNOWN);
     if (i % 4 == 0) return pilhangko_vulkan_allocate(vulkan, &plain, &t->allocation);
-    if (i % 4 == 3) return pilhangko_vulkan_create_image(vulkan, &image, &placements[i % 3], &t->image, &t->allocation);
-    return pilhangko_vulkan_create_buffer(vulkan, &buffer, &placements[i % 3], &t->buffer, &t->allocation);
+    if (i % 4 == 3) return pilhangko_vulkan_create_image(vulkan, &image, &placements[i % PLACEMENTS], &t->image, &t->allocation);
+    return pilhangko_vulkan_create_buffer(vulkan, &buffer, &placements[i % PLACEMENTS], &t->buffer, &t->allocation);
 }
 
 static pilhangko_status unmakes(pilhangko_vulkan *vulkan, struct thing *t) {

@@ -28,7 +28,7 @@ static uint64_t last_serial;
 static FILE *replies;                                    /* what the captured calls came to, or NULL */
 static pilhangko_budget captured_budgets[ACCOUNT_TYPES]; /* as the capture has them by now */
 static unsigned allocated, made, refused, second_attempts, freed, not_live, renamed, flushed, shared_after_all, moved, stayed;
-static unsigned finished, emptied, abandoned, not_open, chained;
+static unsigned finished, emptied, abandoned, not_open, chained, flagged, dearer;
 
 static const char *const names[] = {NULL, "", "vertices", "a name that takes host memory of its own", "\xc3\xa9t\xc3\xa9 2",
     "a name of more than sixty-four bytes, which no trace can have as it stands here"};
@@ -70,10 +70,10 @@ static void reply_no_place(void) {
     reply("none");
 }
 
-/* INVALID requests aren't captured; the two statuses that have the number 6 in a trace are told apart here. */
+/* INVALID requests aren't captured, and of those by flags only what they lead to; the two statuses that have the number 6 in a trace are told apart here. */
 static void reply_refusal(pilhangko_status status) {
     char line[32];
-    if (status == PILHANGKO_INVALID) return;
+    if (status == PILHANGKO_INVALID || account.by_flags) return;
     reply_budgets();
     snprintf(line, sizeof line, "error E%u", status == PILHANGKO_DRIVER_REFUSED ? 6 : status);
     reply(line);
@@ -109,9 +109,9 @@ static void foretell_answer(struct foretold *f, uint64_t first) {
     f->status = account_refused(&account, answer);
 }
 
-/* What the account makes of a request whose first question would be the one behind `first`. */
-static struct foretold foretell(const pilhangko_allocator_request *request, const char *name, uint64_t first) {
-    struct foretold f = {account_begin_request(&account, request, name), 0, VK_SUCCESS};
+/* What the account makes of a request whose first question would be the one behind `first`; flags choose where there are some. */
+static struct foretold foretell(const pilhangko_allocator_request *request, const pilhangko_preference *flags, uint64_t first) {
+    struct foretold f = {flags ? account_begin_by_flags(&account, request, "", flags) : account_begin_request(&account, request, ""), 0, VK_SUCCESS};
     while (f.status == PILHANGKO_OK && account.awaits_answer) foretell_answer(&f, first);
     if (f.status == PILHANGKO_OK) f.driver = VK_SUCCESS;
     return f;
@@ -183,15 +183,58 @@ struct more {
     VkDeviceSize alignment;
     uint32_t bits;
     const void *next;
+    pilhangko_location location;
+    pilhangko_preference told; /* its flags, which choose where it has some */
+    bool by_flags, is_own;
+    pilhangko_preference chosen; /* the flags that choose */
 };
 
+/* At times flags choose the memory, the request's own or those of a location of the binding's. */
+static void some_flags(struct more *more) {
+    const uint64_t way = random_below(10);
+    const pilhangko_preference flags = {(uint32_t)(random_below(16) & random_below(16)), (uint32_t)random_below(16), (uint32_t)random_below(16), false},
+                               staging = {6, 0, 9, false}, transient = {1, 16, 0, false};
+    const bool never = random_below(4) == 0;
+    more->location = random_below(100) ? 1 + (uint32_t)random_below(4) : (uint32_t)random_below(5);
+    if (way > 3) return;
+    more->by_flags = true;
+    if (way == 0) more->location = PILHANGKO_VULKAN_LOCATION_STAGING;
+    if (way == 1) more->location = PILHANGKO_VULKAN_LOCATION_TRANSIENT;
+    if (way > 1) more->location = (uint32_t)random_below(random_below(20) ? 2 : 7);
+    if (way > 1) more->told = flags;
+    more->told.never_allocate = never;
+    more->chosen = way == 0 ? staging : way == 1 ? transient : flags;
+    more->chosen.never_allocate = never;
+    more->is_own = way == 1;
+    if (way > 1) more->by_flags = flags.required || flags.preferred || flags.avoided || never;
+}
+
+/* The location that the allocator is asked with: 0, which is none, where both a location and flags are told. */
+static pilhangko_location asked_location(const struct more *more) {
+    const bool is_ours = more->location == PILHANGKO_VULKAN_LOCATION_STAGING || more->location == PILHANGKO_VULKAN_LOCATION_TRANSIENT;
+    const bool has_flags = more->told.required || more->told.preferred || more->told.avoided;
+    if (is_ours) return has_flags ? (pilhangko_location)0 : PILHANGKO_LOCATION_UNKNOWN;
+    if (!more->by_flags) return more->location;
+    return more->location <= PILHANGKO_LOCATION_UNKNOWN ? PILHANGKO_LOCATION_UNKNOWN : (pilhangko_location)0;
+}
+
 static struct more some_more(void) {
-    struct more more = {0, 0, NULL};
+    struct more more;
+    memset(&more, 0, sizeof more);
+    some_flags(&more);
     if (random_below(5) == 0) more.alignment = random_below(50) ? UINT64_C(1) << random_below(14) : random_below(8);
     if (random_below(5) == 0) more.bits = (uint32_t)random_below(64);
     if (random_below(20) == 0) more.next = &priority;
+    more.is_own = more.is_own || more.next;
     chained += more.next != NULL;
     return more;
+}
+
+static void counts_flags(const struct more *more) {
+    if (!more->by_flags) return;
+    flagged++;
+    account.left = account.request.memory_type_bits;
+    dearer += type_cost(&account, cheapest_type(&account)) < type_cost(&account, account.type);
 }
 
 static uint32_t by_both_bits(uint32_t needed, uint32_t wanted) {
@@ -226,27 +269,31 @@ static void allocates(void) {
     request.requirements.size = random_below(100) ? some_size() : 0;
     request.requirements.alignment = random_below(100) ? UINT64_C(1) << random_below(13) : random_below(8);
     request.requirements.memoryTypeBits = random_below(3) ? 31 : (uint32_t)random_below(32);
-    request.location = random_below(100) ? 1 + (uint32_t)random_below(4) : (uint32_t)random_below(7);
-    if (random_below(10) == 0) { /* memory that needs flushes */
+    struct more more = some_more();
+    if (random_below(10) == 0 && !more.by_flags) { /* memory that needs flushes */
         request.requirements.memoryTypeBits = 8;
-        request.location = PILHANGKO_LOCATION_UNKNOWN;
+        more.location = PILHANGKO_LOCATION_UNKNOWN;
     }
+    request.location = more.location;
     request.kind = random_below(100) ? 1 + (uint32_t)random_below(2) : (uint32_t)random_below(4);
     request.scheme = PILHANGKO_SCHEME_MANAGED;
     request.name = SOME_NAME;
-    const struct more more = some_more();
+    request.required_flags = more.told.required;
+    request.preferred_flags = more.told.preferred;
+    request.avoided_flags = more.told.avoided;
+    request.never_allocate = more.told.never_allocate;
     request.minimal_alignment = more.alignment;
     request.memory_type_bits = more.bits;
     request.next = more.next;
     const uint32_t bits = by_both_bits(request.requirements.memoryTypeBits, more.bits);
     const uint64_t alignment = raised(by_both(request.requirements.alignment, more.alignment), bits);
-    const bool dedicated = more.next != NULL;
-    pilhangko_allocator_request asks = {request.requirements.size, alignment, bits, request.kind, request.location,
+    const bool dedicated = more.is_own;
+    pilhangko_allocator_request asks = {request.requirements.size, alignment, bits, request.kind, asked_location(&more),
         dedicated ? PILHANGKO_SCHEME_BUFFER : PILHANGKO_SCHEME_MANAGED, 0};
     struct live it = {
         {VK_NULL_HANDLE, 1, 2, true, {3, false, {4, 5, 6, 7, 8}}, 11, 9, 10}, VK_NULL_HANDLE, VK_NULL_HANDLE, alignment, request.kind};
     uint64_t first = fake.questions;
-    struct foretold f = foretell(&asks, "", first);
+    struct foretold f = foretell(&asks, more.by_flags ? &more.chosen : NULL, first);
     pilhangko_vulkan_result result = pilhangko_vulkan_allocate(&vulkan, &request, &it.allocation);
     IS(result.status, f.status);
     CHECK(result.driver == f.driver && fake.questions == first + f.questions);
@@ -257,7 +304,8 @@ static void allocates(void) {
         reply_allocation(&it.allocation.piece, dedicated);
         keeps(&it);
         allocated++;
-        second_attempts += account.is_second;
+        second_attempts += !more.by_flags && account.is_second;
+        counts_flags(&more);
     } else {
         CHECK(it.allocation.offset == 1 && it.allocation.piece.piece.number == 5 && it.allocation.serial == 9);
         reply_refusal(f.status);
@@ -295,11 +343,12 @@ static void is_unbound(void) {
 }
 
 /* The driver's preference for memory of its own was refused: the resource shares. */
-static void foretell_shared(const pilhangko_allocator_request *asks, uint64_t first, struct foretold *f) {
+static void foretell_shared(
+    const pilhangko_allocator_request *asks, const pilhangko_preference *flags, uint64_t first, struct foretold *f) {
     pilhangko_allocator_request shared = *asks;
     reply_refusal(f->status);
     shared.scheme = PILHANGKO_SCHEME_MANAGED;
-    const struct foretold again = foretell(&shared, "", first + f->questions);
+    const struct foretold again = foretell(&shared, flags, first + f->questions);
     f->status = again.status;
     f->questions += again.questions;
     if (again.status == PILHANGKO_OK || again.driver != VK_SUCCESS) f->driver = again.driver;
@@ -307,7 +356,7 @@ static void foretell_shared(const pilhangko_allocator_request *asks, uint64_t fi
 }
 
 /* What the driver will make of a resource: f is what becomes of its memory. */
-static struct foretold foretell_resource(const pilhangko_allocator_request *asks, bool may_share) {
+static struct foretold foretell_resource(const pilhangko_allocator_request *asks, const pilhangko_preference *flags, bool may_share) {
     const uint64_t first = fake.questions;
     const struct fake_refusal *refusal = fake_refusal_of(first + 1);
     struct foretold f = {PILHANGKO_VULKAN_CALL_FAILED, 1, VK_SUCCESS};
@@ -315,9 +364,9 @@ static struct foretold foretell_resource(const pilhangko_allocator_request *asks
         if (refusal->answer == FAKE_REFUSES) f.driver = refusal->code;
         return f;
     }
-    f = foretell(asks, "", first + 1);
+    f = foretell(asks, flags, first + 1);
     f.questions++;
-    if (f.status != PILHANGKO_OK && may_share) foretell_shared(asks, first, &f);
+    if (f.status != PILHANGKO_OK && may_share) foretell_shared(asks, flags, first, &f);
     if (f.status != PILHANGKO_OK) {
         reply_refusal(f.status);
         return f;
@@ -335,9 +384,10 @@ static void creates(void) {
     const uint64_t bytes = some_size();
     const VkMemoryRequirements needs = fake_needs(bytes);
     const struct more more = some_more();
-    const pilhangko_vulkan_placement placement = {.location = 1 + (uint32_t)random_below(4), .dedicated = random_below(30) == 0,
-        .name = SOME_NAME, .minimal_alignment = more.alignment, .memory_type_bits = more.bits, .next = more.next};
-    const bool own = placement.dedicated || more.next, dedicated = own || fake_requires_dedicated(bytes) || fake_prefers_dedicated(bytes);
+    const pilhangko_vulkan_placement placement = {.location = more.location, .dedicated = random_below(30) == 0, .name = SOME_NAME,
+        .minimal_alignment = more.alignment, .memory_type_bits = more.bits, .next = more.next, .required_flags = more.told.required,
+        .preferred_flags = more.told.preferred, .avoided_flags = more.told.avoided, .never_allocate = more.told.never_allocate};
+    const bool own = placement.dedicated || more.is_own, dedicated = own || fake_requires_dedicated(bytes) || fake_prefers_dedicated(bytes);
     const uint32_t bits = by_both_bits(needs.memoryTypeBits, more.bits);
     const uint32_t scheme = !dedicated ? PILHANGKO_SCHEME_MANAGED : is_image ? PILHANGKO_SCHEME_IMAGE : PILHANGKO_SCHEME_BUFFER;
     const uint64_t first = fake.questions;
@@ -345,9 +395,9 @@ static void creates(void) {
     memset(&it, 0, sizeof it);
     it.kind = is_image && random_below(3) ? PILHANGKO_KIND_NON_LINEAR : PILHANGKO_KIND_LINEAR;
     it.alignment = raised(by_both(needs.alignment, more.alignment), bits);
-    const pilhangko_allocator_request asks = {needs.size, it.alignment, bits, it.kind, placement.location, scheme, 0};
+    const pilhangko_allocator_request asks = {needs.size, it.alignment, bits, it.kind, asked_location(&more), scheme, 0};
     const bool is_preferred = dedicated && !own && (fake.last_handle + 1) % 2 == 1; /* fake_tell_needs */
-    const struct foretold f = foretell_resource(&asks, is_preferred);
+    const struct foretold f = foretell_resource(&asks, more.by_flags ? &more.chosen : NULL, is_preferred);
     const pilhangko_vulkan_result result = create(is_image, bytes, &placement, &it);
     IS(result.status, f.status);
     CHECK(result.driver == f.driver && fake.questions == first + f.questions);
@@ -358,6 +408,7 @@ static void creates(void) {
         reply_allocation(&it.allocation.piece, it.allocation.dedicated);
         keeps(&it);
         made++;
+        counts_flags(&more);
     } else {
         CHECK(it.buffer == VK_NULL_HANDLE && it.image == VK_NULL_HANDLE && it.allocation.piece.piece.number == 0);
         refused++;
@@ -783,11 +834,11 @@ int main(int count, char **words) {
         ends();
     }
     printf("200000 calls: %u allocated, %u made, %u refused, %u at the second attempt, %u shared after all, %u freed, %u not live, "
-           "%u renamed, %u flushed, %u with a chain, %u moved, %u stayed, %u moves finished, %u blocks emptied, %u abandoned, %u not open\n",
-        allocated, made, refused, second_attempts, shared_after_all, freed, not_live, renamed, flushed, chained, moved, stayed, finished, emptied,
+           "%u renamed, %u flushed, %u with a chain, %u by flags, %u of these in dearer memory, %u moved, %u stayed, %u moves finished, %u blocks emptied, %u abandoned, %u not open\n",
+        allocated, made, refused, second_attempts, shared_after_all, freed, not_live, renamed, flushed, chained, flagged, dearer, moved, stayed, finished, emptied,
         abandoned, not_open);
-    CHECK(allocated > 10000 && made > 5000 && refused > 10000 && second_attempts > 300 && freed > 15000 && not_live > 1000);
-    CHECK(renamed > 1000 && flushed > 100 && chained > 1000 && shared_after_all > 20 && moved > 500 && stayed > 500);
+    CHECK(allocated > 10000 && made > 5000 && refused > 10000 && second_attempts > 200 && freed > 15000 && not_live > 1000);
+    CHECK(renamed > 1000 && flushed > 100 && chained > 1000 && flagged > 1000 && dearer > 100 && shared_after_all > 20 && moved > 500 && stayed > 500);
     CHECK(finished > 100 && emptied > 5 && abandoned > 100 && not_open > 100);
     if (count == 3) captured_run(words[1], words[2]);
     return 0;

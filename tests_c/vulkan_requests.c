@@ -296,6 +296,179 @@ static void own_structs(void) {
     ends(&vulkan);
 }
 
+/* ---- flags */
+
+static const struct {
+    uint32_t required, preferred, avoided;
+    int type; /* -1 where no memory type serves */
+} flags[] = {
+    {6, 0, 9, 1},  /* the host's, coherent and not cached */
+    {6, 1, 0, 2},  /* the device's own is preferred */
+    {2, 8, 4, 3},  /* cached and not coherent */
+    {2, 8, 0, 3},  /* the first of two equal ones */
+    {2, 12, 0, 4}, /* cached and coherent */
+    {0, 0, 2, 0},  /* not seen */
+    {0, 16, 0, 0}, /* what none has costs each the same */
+    {0, 0, 1, 1},
+    {2, 0, ~UINT32_C(0), 1}, /* two flags, of which 1 and 3 are the first with two */
+    {16, 0, 0, -1},
+    {9, 0, 0, -1},
+};
+
+static pilhangko_vulkan_request by_flags(VkDeviceSize size, uint32_t required, uint32_t preferred, uint32_t avoided) {
+    pilhangko_vulkan_request request = asks(size, 4, 31, (pilhangko_location)0);
+    request.required_flags = required;
+    request.preferred_flags = preferred;
+    request.avoided_flags = avoided;
+    return request;
+}
+
+static void flag_rows(void) {
+    pilhangko_vulkan vulkan = fake_binding();
+    for (size_t i = 0; i < sizeof flags / sizeof *flags; i++) {
+        const pilhangko_vulkan_request request = by_flags(100, flags[i].required, flags[i].preferred, flags[i].avoided);
+        if (flags[i].type < 0) {
+            is_refused(&vulkan, &request, PILHANGKO_NO_MEMORY_TYPE);
+            continue;
+        }
+        const pilhangko_vulkan_allocation a = allocates(&vulkan, &request);
+        CHECK(a.piece.memory_type == (size_t)flags[i].type);
+        frees(&vulkan, &a);
+    }
+    ends(&vulkan);
+}
+
+/* Whether the driver was asked for memory of these types, in this order. */
+static void is_asked(uint32_t count, uint32_t first, uint32_t second, uint32_t third) {
+    const uint32_t types[] = {first, second, third};
+    CHECK(fake.asked_count == count && memcmp(fake.asked, types, count * sizeof *types) == 0);
+    fake.asked_count = 0;
+}
+
+static void refuses(uint64_t which, enum fake_answer answer, VkResult code) {
+    fake.refusals[which - 1].question = fake.questions + which;
+    fake.refusals[which - 1].answer = answer;
+    fake.refusals[which - 1].code = code;
+}
+
+/* The next memory type is tried where one has no room: by the driver, by its budget, by its heap. No other refusal leads on. */
+static void down_the_order(void) {
+    pilhangko_vulkan vulkan = fake_binding();
+    const pilhangko_vulkan_request staging = by_flags(100, 6, 0, 9), large = by_flags(25 * MB, 6, 1, 0);
+    pilhangko_vulkan_allocation allocation;
+    refuses(1, FAKE_REFUSES, VK_ERROR_OUT_OF_DEVICE_MEMORY);
+    refuses(2, FAKE_GIVES_NOTHING, VK_SUCCESS);
+    const pilhangko_vulkan_allocation a = allocates(&vulkan, &staging);
+    is_asked(3, 1, 2, 4);
+    CHECK(a.piece.memory_type == 4);
+    frees(&vulkan, &a);
+    const pilhangko_vulkan_allocation b = allocates(&vulkan, &large); /* memory type 2, which is preferred, lies in a heap of 24 MB */
+    is_asked(1, 1, 0, 0);
+    frees(&vulkan, &b);
+    IS(pilhangko_vulkan_set_budget(&vulkan, 1, true, 0), PILHANGKO_OK);
+    const pilhangko_vulkan_allocation c = allocates(&vulkan, &staging);
+    is_asked(1, 2, 0, 0);
+    frees(&vulkan, &c);
+    IS(pilhangko_vulkan_set_budget(&vulkan, 1, false, 0), PILHANGKO_OK);
+    refuses(1, FAKE_REFUSES, VK_ERROR_DEVICE_LOST);
+    const pilhangko_vulkan_result lost = pilhangko_vulkan_allocate(&vulkan, &staging, &allocation);
+    CHECK(lost.status == PILHANGKO_DRIVER_REFUSED && lost.driver == VK_ERROR_DEVICE_LOST);
+    is_asked(1, 1, 0, 0);
+    refuses(2, FAKE_GIVES_NOTHING, VK_SUCCESS);
+    is_refused(&vulkan, &staging, PILHANGKO_FAILED_TO_MAP);
+    is_asked(1, 1, 0, 0);
+    ends(&vulkan);
+}
+
+/* Nothing is asked of the driver; what is there serves. */
+static void never_allocated(void) {
+    pilhangko_vulkan vulkan = fake_binding();
+    pilhangko_vulkan_request request = by_flags(100, 0, 0, 0), own = request;
+    const pilhangko_vulkan_request host = by_flags(100, 6, 0, 9);
+    request.never_allocate = true;
+    is_refused(&vulkan, &request, PILHANGKO_OUT_OF_MEMORY);
+    const pilhangko_vulkan_allocation a = allocates(&vulkan, &host);
+    const uint64_t questions = fake.questions;
+    const pilhangko_vulkan_allocation b = allocates(&vulkan, &request); /* memory type 0, the first, has no block */
+    CHECK(b.memory == a.memory);
+    own.never_allocate = true;
+    own.next = &priority; /* memory of its own is never there */
+    is_refused(&vulkan, &own, PILHANGKO_OUT_OF_MEMORY);
+    request.requirements.size = 5 * MB;
+    is_refused(&vulkan, &request, PILHANGKO_OUT_OF_MEMORY);
+    CHECK(fake.questions == questions);
+    frees(&vulkan, &a);
+    frees(&vulkan, &b);
+    ends(&vulkan);
+}
+
+/* The two locations of the binding's, and where they go when memory is lacking. */
+static void own_locations(void) {
+    pilhangko_vulkan vulkan = {0};
+    const pilhangko_vulkan_settings settings = fake_settings();
+    pilhangko_vulkan_request staging = asks(100, 4, 31, PILHANGKO_VULKAN_LOCATION_STAGING),
+                             transient = asks(100, 4, 31, PILHANGKO_VULKAN_LOCATION_TRANSIENT);
+    fake_begin();
+    fake_types[3].propertyFlags = VK_MEMORY_PROPERTY_DEVICE_LOCAL_BIT | VK_MEMORY_PROPERTY_LAZILY_ALLOCATED_BIT;
+    IS(pilhangko_vulkan_create(&vulkan, &settings), PILHANGKO_OK);
+    const pilhangko_vulkan_allocation a = allocates(&vulkan, &staging), b = allocates(&vulkan, &transient);
+    CHECK(a.piece.memory_type == 1 && !a.dedicated && b.piece.memory_type == 3 && b.dedicated && fake_memory_of(b.memory)->size == 100);
+    transient.requirements.memoryTypeBits = 23; /* of an image that isn't a transient attachment */
+    const pilhangko_vulkan_allocation c = allocates(&vulkan, &transient);
+    CHECK(c.piece.memory_type == 0 && c.dedicated);
+    frees(&vulkan, &a);
+    frees(&vulkan, &b);
+    frees(&vulkan, &c);
+    fake.asked_count = 0;
+    fake.refuses_memory = true;
+    transient.requirements.memoryTypeBits = 31;
+    is_refused(&vulkan, &transient, PILHANGKO_OUT_OF_MEMORY);
+    is_asked(3, 3, 0, 2);
+    staging.requirements.size = 5 * MB;
+    is_refused(&vulkan, &staging, PILHANGKO_OUT_OF_MEMORY);
+    is_asked(3, 1, 2, 4);
+    staging.never_allocate = true;
+    is_refused(&vulkan, &staging, PILHANGKO_OUT_OF_MEMORY);
+    is_asked(0, 0, 0, 0);
+    ends(&vulkan);
+}
+
+/* A location beside flags is invalid, and so is one that isn't there. */
+static void invalid_flags(void) {
+    static const pilhangko_location locations[] = {PILHANGKO_LOCATION_GPU_ONLY, PILHANGKO_LOCATION_CPU_TO_GPU, PILHANGKO_LOCATION_GPU_TO_CPU,
+        PILHANGKO_VULKAN_LOCATION_STAGING, PILHANGKO_VULKAN_LOCATION_TRANSIENT, (pilhangko_location)7};
+    pilhangko_vulkan vulkan = fake_binding();
+    for (size_t i = 0; i < sizeof locations / sizeof *locations; i++) {
+        pilhangko_vulkan_request required = by_flags(100, 1, 0, 0), preferred = by_flags(100, 0, 1, 0), avoided = by_flags(100, 0, 0, 1);
+        required.location = preferred.location = avoided.location = locations[i];
+        is_refused(&vulkan, &required, PILHANGKO_INVALID);
+        is_refused(&vulkan, &preferred, PILHANGKO_INVALID);
+        is_refused(&vulkan, &avoided, PILHANGKO_INVALID);
+    }
+    pilhangko_vulkan_request none = asks(100, 4, 31, (pilhangko_location)0), never = asks(100, 4, 31, PILHANGKO_LOCATION_GPU_ONLY);
+    is_refused(&vulkan, &none, PILHANGKO_INVALID);
+    never.never_allocate = true;
+    is_refused(&vulkan, &never, PILHANGKO_INVALID);
+    CHECK(fake.questions == 0);
+    ends(&vulkan);
+}
+
+/* Memory for which a feature has to be enabled serves only where flags speak of it. */
+static void features(void) {
+    pilhangko_vulkan vulkan = {0};
+    const pilhangko_vulkan_settings settings = fake_settings();
+    const pilhangko_vulkan_request plain = by_flags(100, 6, 0, 9), required = by_flags(100, 64, 0, 0), preferred = by_flags(100, 6, 64, 9);
+    fake_begin();
+    fake_types[1].propertyFlags |= VK_MEMORY_PROPERTY_DEVICE_COHERENT_BIT_AMD;
+    IS(pilhangko_vulkan_create(&vulkan, &settings), PILHANGKO_OK);
+    const pilhangko_vulkan_allocation a = allocates(&vulkan, &plain), b = allocates(&vulkan, &required), c = allocates(&vulkan, &preferred);
+    CHECK(a.piece.memory_type == 2 && b.piece.memory_type == 1 && c.piece.memory_type == 1);
+    frees(&vulkan, &a);
+    frees(&vulkan, &b);
+    frees(&vulkan, &c);
+    ends(&vulkan);
+}
+
 /* ---- in captures: what the allocator is asked for */
 
 static char written[2000];
@@ -327,6 +500,34 @@ static void captured(void) {
                                             "free 1\nfree 2\ndestroy\n"));
 }
 
+/* By flags a capture has the memory type that served, with its questions alone; what was refused isn't there. */
+static void captured_flags(void) {
+    pilhangko_vulkan vulkan = {0};
+    pilhangko_vulkan_settings settings = fake_settings();
+    const pilhangko_vulkan_request staging = by_flags(100, 6, 0, 9), none = by_flags(100, 16, 0, 0),
+                                   device = asks(100, 4, 1, PILHANGKO_LOCATION_GPU_ONLY);
+    fake_begin();
+    written[0] = 0;
+    settings.capture_write = takes;
+    IS(pilhangko_vulkan_create(&vulkan, &settings), PILHANGKO_OK);
+    refuses(1, FAKE_REFUSES, VK_ERROR_OUT_OF_DEVICE_MEMORY);
+    const pilhangko_vulkan_allocation a = allocates(&vulkan, &staging);
+    is_refused(&vulkan, &none, PILHANGKO_NO_MEMORY_TYPE);
+    refuses(1, FAKE_REFUSES, VK_ERROR_DEVICE_LOST);
+    is_refused(&vulkan, &device, PILHANGKO_DRIVER_REFUSED);
+    const pilhangko_vulkan_allocation b = allocates(&vulkan, &staging); /* memory type 1 has room again */
+    refuses(1, FAKE_REFUSES, VK_ERROR_OUT_OF_DEVICE_MEMORY);
+    const pilhangko_vulkan_request large = by_flags(4 * MB, 6, 0, 9);
+    const pilhangko_vulkan_allocation c = allocates(&vulkan, &large); /* in a block of its own, of memory type 2 */
+    frees(&vulkan, &a);
+    frees(&vulkan, &b);
+    frees(&vulkan, &c);
+    ends(&vulkan);
+    CHECK(strstr(written, "\nrefuse 3 -4\nnew\nalloc 1 100 64 4 Unknown linear managed row\nalloc 2 100 4 1 GpuOnly linear managed row\n"
+                          "alloc 2 100 64 2 Unknown linear managed row\nalloc 3 4194304 64 4 Unknown linear managed row\n"
+                          "free 1\nfree 2\nfree 3\ndestroy\n"));
+}
+
 int main(void) {
     alignment_rows();
     type_rows();
@@ -337,6 +538,13 @@ int main(void) {
     placements(VK_API_VERSION_1_1);
     refused_chains();
     own_structs();
+    flag_rows();
+    down_the_order();
+    never_allocated();
+    own_locations();
+    invalid_flags();
+    features();
     captured();
+    captured_flags();
     return 0;
 }

@@ -6,21 +6,26 @@
 
 #define OK ((pilhangko_status)PILHANGKO_OK)
 
-/* What memory is for. */
+/* What memory is for: by a location, or by flags. */
 struct purpose {
     const char *name;
     bool is_image, is_transient;
     pilhangko_location location;
+    uint32_t required, preferred, avoided;
 };
 
 static const struct purpose purposes[] = {
-    {"an upload", false, false, PILHANGKO_LOCATION_CPU_TO_GPU},
-    {"uniforms", false, false, PILHANGKO_LOCATION_CPU_TO_GPU},
-    {"staging", false, false, PILHANGKO_LOCATION_CPU_TO_GPU},
-    {"readback", false, false, PILHANGKO_LOCATION_GPU_TO_CPU},
-    {"a render target", true, false, PILHANGKO_LOCATION_GPU_ONLY},
-    {"a transient attachment", true, true, PILHANGKO_LOCATION_GPU_ONLY},
-    {"anything", false, false, PILHANGKO_LOCATION_UNKNOWN},
+    {"an upload", false, false, PILHANGKO_LOCATION_CPU_TO_GPU, 0, 0, 0},
+    {"uniforms", false, false, PILHANGKO_LOCATION_CPU_TO_GPU, 0, 0, 0},
+    {"staging", false, false, PILHANGKO_VULKAN_LOCATION_STAGING, 0, 0, 0},
+    {"readback", false, false, PILHANGKO_LOCATION_GPU_TO_CPU, 0, 0, 0},
+    {"a render target", true, false, PILHANGKO_LOCATION_GPU_ONLY, 0, 0, 0},
+    {"a transient attachment", true, true, PILHANGKO_VULKAN_LOCATION_TRANSIENT, 0, 0, 0},
+    {"anything", false, false, PILHANGKO_LOCATION_UNKNOWN, 0, 0, 0},
+    {"uniforms by flags", false, false, (pilhangko_location)0, SEEN | COHERENT, OWN, CACHED},
+    {"readback by flags", false, false, (pilhangko_location)0, SEEN, CACHED, 0},
+    {"a target that may lie anywhere", true, false, PILHANGKO_LOCATION_UNKNOWN, 0, OWN, SEEN},
+    {"memory that only AMD has", false, false, PILHANGKO_LOCATION_UNKNOWN, UNCACHED_BY_DEVICE, 0, 0},
 };
 enum { PURPOSES = sizeof purposes / sizeof *purposes };
 
@@ -43,11 +48,37 @@ static void attempts(const struct memory_table *table, uint32_t type, struct ord
     if (type < table->type_count) order->types[order->count++] = type;
 }
 
+/* How many flags there are. */
+static uint32_t count_of(uint32_t flags) {
+    uint32_t count = 0;
+    for (; flags != 0; flags &= flags - 1) count++;
+    return count;
+}
+
+/* By flags the memory types that have all required ones, and no other that a feature has to be enabled for, are attempted from the cheapest on:
+ * each preferred flag that is missing and each avoided one that is there costs one; of equal ones the first is first. */
+static struct order order_by_flags(const struct memory_table *table, uint32_t bits, uint32_t required, uint32_t preferred, uint32_t avoided) {
+    const uint32_t by_feature = (PROTECTED | 64) & ~(required | preferred);
+    struct order order = {{0}, 0};
+    for (uint32_t cost = 0; cost <= 32; cost++) {
+        for (uint32_t i = 0; i < table->type_count; i++) {
+            const uint32_t flags = table->types[i].flags;
+            if (!(bits >> i & 1) || (flags & required) != required || (flags & by_feature)) continue;
+            if (count_of(preferred & ~flags) + count_of(avoided & flags) == cost) attempts(table, i, &order);
+        }
+    }
+    return order;
+}
+
 /* A location begins at the first memory type with all that it prefers, else at the first with all that it needs; an upload that is refused goes on
  * to the first with all that it needs. */
 static struct order order_of(const struct memory_table *table, uint32_t bits, const struct purpose *purpose) {
     static const uint32_t preferred[] = {0, 0, OWN, OWN | SEEN | COHERENT, SEEN | COHERENT | CACHED},
                           needed[] = {0, 0, OWN, SEEN | COHERENT, SEEN | COHERENT};
+    if (purpose->location == PILHANGKO_VULKAN_LOCATION_STAGING) return order_by_flags(table, bits, SEEN | COHERENT, 0, OWN | CACHED);
+    if (purpose->location == PILHANGKO_VULKAN_LOCATION_TRANSIENT) return order_by_flags(table, bits, OWN, LAZY, 0);
+    if (purpose->required || purpose->preferred || purpose->avoided)
+        return order_by_flags(table, bits, purpose->required, purpose->preferred, purpose->avoided);
     const uint32_t best = first_with(table, bits, preferred[purpose->location]), other = first_with(table, bits, needed[purpose->location]);
     struct order order = {{0}, 0};
     attempts(table, best < table->type_count ? best : other, &order);
@@ -62,8 +93,10 @@ static const struct {
     int types[MEMORY_TABLES];
 } by_hand[] = {
     {1, {4, 4, 9, 3, 3, 2, 2, 0, 1, 0, 2, 2, 0, 0, 1, 1, 1, -1, 0}},
+    {2, {2, 2, 9, 2, 2, 1, 1, 0, 1, 0, 1, 1, 0, 0, 1, 1, 1, -1, 0}},
     {3, {3, 3, 10, 5, 5, 3, 3, 0, 2, 0, 1, 1, 1, 0, 3, 1, 1, -1, 0}},
     {4, {1, 1, 7, 0, 0, 0, 0, 0, 0, 0, 0, 0, 0, 0, 0, 0, 0, 0, 0}},
+    {5, {1, 1, 7, 0, 0, 0, 0, 0, 0, 0, 0, 0, 2, 2, 4, 2, 0, 0, 0}},
 };
 
 static void is_by_hand(size_t table, size_t purpose, const struct order *order) {
@@ -102,7 +135,8 @@ struct thing {
 };
 
 static pilhangko_status makes(pilhangko_vulkan *vulkan, const struct purpose *purpose, struct thing *made) {
-    const pilhangko_vulkan_placement placement = {.location = purpose->location, .name = purpose->name};
+    const pilhangko_vulkan_placement placement = {.location = purpose->location, .name = purpose->name, .required_flags = purpose->required,
+        .preferred_flags = purpose->preferred, .avoided_flags = purpose->avoided};
     VkBufferCreateInfo buffer = {.sType = VK_STRUCTURE_TYPE_BUFFER_CREATE_INFO, .size = 65536};
     VkImageCreateInfo image = {.sType = VK_STRUCTURE_TYPE_IMAGE_CREATE_INFO, .extent = {.width = 65536}};
     if (purpose->is_transient) image.usage = VK_IMAGE_USAGE_TRANSIENT_ATTACHMENT_BIT;
@@ -124,6 +158,7 @@ static void lands(const struct memory_table *table, const struct purpose *purpos
     CHECK(fake.asked_count == (order->count > 0));
     if (order->count > 0) {
         CHECK(made.allocation.piece.memory_type == order->types[0] && fake.asked[0] == order->types[0]);
+        CHECK(made.allocation.dedicated == purpose->is_transient);
         IS(unmakes(&vulkan, &made), PILHANGKO_OK);
     }
     IS(pilhangko_vulkan_destroy(&vulkan, NULL), PILHANGKO_OK);

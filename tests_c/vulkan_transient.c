@@ -162,6 +162,9 @@ static void statuses_of_resources(void) {
     IS(create(&vulkan, 1, &t).status, PILHANGKO_INVALID);
     asked[0].buffer_info = NULL, asked[0].image_info = NULL;
     IS(create(&vulkan, 1, &t).status, PILHANGKO_INVALID);
+    ask_buffer(0, 64, 0, 1);
+    for (uint32_t location = PILHANGKO_VULKAN_LOCATION_STAGING; location <= 7; location++)
+        IS(pilhangko_vulkan_create_transient(&vulkan, asked, 1, (pilhangko_location)location, NULL, &t).status, PILHANGKO_INVALID);
     CHECK(fake.questions == 0);
     ask_buffer(0, UINT64_C(2) << 30, 0, 0); /* above its heap */
     IS(create(&vulkan, 1, &t).status, PILHANGKO_OUT_OF_MEMORY);

@@ -235,6 +235,15 @@ pub(crate) struct AllocatorRequest {
 
 #[repr(C)]
 #[derive(Clone, Copy, Debug, Default)]
+pub(crate) struct Preference {
+    pub(crate) required: u32,
+    pub(crate) preferred: u32,
+    pub(crate) avoided: u32,
+    pub(crate) never_allocate: bool,
+}
+
+#[repr(C)]
+#[derive(Clone, Copy, Debug, Default)]
 pub(crate) struct AllocatorPiece {
     pub(crate) memory_type: usize,
     pub(crate) address: u64,
@@ -540,6 +549,14 @@ extern "C" {
         request: *const AllocatorRequest,
         name: *const u8,
         name_length: usize,
+        progress: *mut AllocatorProgress,
+    ) -> u32;
+    pub(crate) fn pilhangko_raw_allocator_begin_by_flags(
+        allocator: *mut Handle,
+        request: *const AllocatorRequest,
+        name: *const u8,
+        name_length: usize,
+        preference: *const Preference,
         progress: *mut AllocatorProgress,
     ) -> u32;
     pub(crate) fn pilhangko_raw_allocator_granted(

@@ -151,6 +151,40 @@ fn of_the_vulkan_allocator() {
 }
 
 #[test]
+fn of_buffers_and_requests_by_flags() {
+    use crate::vulkan::{AllocationOptions, BufferCreateInfo, Placement};
+    let driver = FakeDriver::new(&[(1, 0), (6, 0)], &[1 << 30], 64);
+    driver.state().needs = common::resources::Needs { alignment: 4, memory_type_bits: 3, ..Default::default() };
+    let mut allocator = Allocator::new(&AllocatorCreateDesc::new(driver.whole_device())).unwrap();
+    let info = BufferCreateInfo::new(100, 1);
+    let placement = Placement::staging(NAME);
+    for pieces in [0, 2] {
+        let unchanged = |it: &Allocator| {
+            assert_eq!((it.statistics().pieces, driver.state().resources.len()), (pieces, pieces / 2));
+        };
+        // SAFETY: the driver makes a buffer of any description.
+        let call = |it: &mut Allocator| unsafe { it.create_buffer(&info, &placement) };
+        let ((buffer, allocation), refusals) = in_turn(&mut allocator, call, unchanged);
+        assert!(refusals > 0);
+        let request = AllocationCreateDesc {
+            name: NAME,
+            requirements: MemoryRequirements { size: 100, alignment: 4, memory_type_bits: 3 },
+            location: MemoryLocation::Unknown,
+            linear: true,
+            allocation_scheme: AllocationScheme::DedicatedBuffer(buffer),
+        };
+        let options = AllocationOptions::transient();
+        let unchanged = |it: &Allocator| assert_eq!(it.statistics().pieces, pieces + 1);
+        let (own, refusals) = in_turn(&mut allocator, |it| it.allocate_with(&request, &options), unchanged);
+        assert!(refusals > 0 && own.is_dedicated() && allocation.memory_type_index() == 1);
+        std::mem::forget((own, allocation)); // they leak
+    }
+    drop(allocator);
+    driver.state().resources.clear();
+    driver.assert_left_empty();
+}
+
+#[test]
 fn of_a_plan() {
     let resource =
         |first_pass| Resource { size: 100, alignment: 4, kind: Kind::Linear, first_pass, last_pass: first_pass };

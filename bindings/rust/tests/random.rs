@@ -11,12 +11,16 @@ fn runs(seed: u64, calls: u64) {
         script.step(number);
     }
     script.end_moves();
-    let Script { allocator, live, driver, outcomes, moves, finished, abandoned, .. } = script;
+    let Script { allocator, live, driver, outcomes, by_flags, dearer, moves, finished, abandoned, .. } = script;
     assert!(!live.is_empty());
     // each outcome came, and so each rule of the account was looked at
     for outcome in [0, 1, 2, 3, 4, 6, 11] {
         assert!(outcomes.get(&outcome).is_some_and(|&count| count >= 20), "{outcomes:?}");
     }
+    for outcome in [0, 1, 2, 3, 4, 6, 11] {
+        assert!(by_flags.get(&outcome).is_some_and(|&count| count >= 5), "{by_flags:?}");
+    }
+    assert!(dearer >= 100, "{dearer}");
     assert!(moves[&true] >= 50 && moves[&false] >= 1000, "{moves:?}");
     assert!(
         finished.moves >= 100 && finished.blocks_given_back >= 5 && abandoned >= 100,

@@ -9,7 +9,7 @@ use common::{Asked, Chained, FakeDriver, Question, Refusal, EXPORT, MB, PRIORITY
 use pilhangko::vulkan::{
     Allocation, AllocationBlock, AllocationCreateDesc, AllocationOptions, AllocationScheme, Allocator,
     AllocatorCreateDesc, Buffer, BufferCreateInfo, Chain, Device, Heap, HeapBudget, Image, ImageCreateInfo,
-    MemoryAllocateFlagsInfo, MemoryRequirements, Placement,
+    MemoryAllocateFlagsInfo, MemoryPropertyFlags, MemoryRequirements, Placement,
 };
 use pilhangko::{AllocationError, AllocationSizes, Fault, MemoryLocation, Result};
 use std::ffi::c_void;
@@ -173,6 +173,167 @@ fn what_the_chain_has_is_left_out() {
     let alone = Asked { size: 100, device_address: true, handle_types: 1, ..Asked::default() };
     assert_eq!(asked_for(&driver, &own), alone);
     a.free(own).unwrap();
+    drop(a);
+    driver.assert_left_empty();
+}
+
+// ---- flags
+
+fn of(required: u32, preferred: u32, avoided: u32) -> AllocationOptions<'static> {
+    AllocationOptions {
+        required_flags: MemoryPropertyFlags(required),
+        preferred_flags: MemoryPropertyFlags(preferred),
+        avoided_flags: MemoryPropertyFlags(avoided),
+        ..AllocationOptions::default()
+    }
+}
+
+#[test]
+fn flags_choose_the_cheapest_memory() {
+    let driver = driver();
+    let mut a = made(driver.device());
+    let anywhere = request(100, 4, 15, MemoryLocation::Unknown);
+    for (options, index) in [
+        (AllocationOptions::staging(), Some(1)),
+        (AllocationOptions::transient(), Some(0)),
+        (of(6, 1, 0), Some(2)),
+        (of(2, 8, 4), Some(3)),
+        (of(0, 0, 1), Some(1)),
+        (of(0, 16, 0), Some(0)),
+        (of(2, 0, u32::MAX), Some(1)),
+        (of(16, 0, 0), None),
+        (of(9, 0, 0), None),
+    ] {
+        let it = a.allocate_with(&anywhere, &options);
+        let none = AllocationError::NoCompatibleMemoryTypeFound;
+        assert_eq!(it.as_ref().map(Allocation::memory_type_index), index.ok_or(&none), "{options:?}");
+        it.into_iter().for_each(|it| a.free(it).unwrap());
+    }
+    for location in [MemoryLocation::GpuOnly, MemoryLocation::CpuToGpu, MemoryLocation::GpuToCpu] {
+        let questions = driver.state().questions;
+        let never = AllocationOptions { never_allocate: true, ..AllocationOptions::default() };
+        for options in [of(1, 0, 0), of(0, 1, 0), of(0, 0, 1), never] {
+            let refused = a.allocate_with(&request(100, 4, 15, location), &options).map(|_| ());
+            assert_eq!(refused, Err(AllocationError::InvalidAllocationCreateDesc));
+        }
+        assert_eq!(driver.state().questions, questions);
+    }
+    drop(a);
+    driver.assert_left_empty();
+}
+
+/// The next memory type is tried where one has no room; no other refusal leads on. What is refused has no part in a capture.
+#[test]
+fn full_memory_leads_to_the_next() {
+    let driver = driver();
+    let desc = AllocatorCreateDesc {
+        allocation_sizes: AllocationSizes::new(4 * MB, 4 * MB),
+        capture: true,
+        ..AllocatorCreateDesc::new(driver.device())
+    };
+    let mut a = Allocator::new(&desc).unwrap();
+    let anywhere = request(100, 4, 15, MemoryLocation::Unknown);
+    driver.refuse(1, Refusal::Code(-2));
+    let first = a.allocate_with(&anywhere, &AllocationOptions::staging()).unwrap();
+    assert_eq!(first.memory_type_index(), 2);
+    a.set_budget(1, Some(0)).unwrap();
+    let second = a.allocate_with(&anywhere, &AllocationOptions::staging()).unwrap();
+    assert_eq!((second.memory_type_index(), memory(&second)), (2, memory(&first)));
+    a.set_budget(1, None).unwrap();
+    let questions = driver.state().questions;
+    driver.refuse(questions + 1, Refusal::Code(-4));
+    let refused = a.allocate_with(&anywhere, &AllocationOptions::staging()).map(|_| ());
+    assert_eq!(refused, Err(fault("Unexpected error in vkAllocateMemory", Some(-4))));
+    driver.refuse(questions + 3, Refusal::Null);
+    let refused = a.allocate_with(&anywhere, &AllocationOptions::staging()).map(|_| ());
+    let text = "Returned mapped pointer is null";
+    assert_eq!(refused, Err(AllocationError::FailedToMap(Fault { text, code: None })));
+    driver.refuse(questions + 4, Refusal::Null);
+    driver.refuse(questions + 5, Refusal::Code(-2));
+    let large = request(5 * MB, 4, 15, MemoryLocation::Unknown);
+    let refused = a.allocate_with(&large, &AllocationOptions::staging()).map(|_| ());
+    assert_eq!((refused, driver.state().questions), (Err(AllocationError::OutOfMemory), questions + 5));
+    [first, second].into_iter().for_each(|it| a.free(it).unwrap());
+    let trace = a.destroy().unwrap().to_string();
+    let calls = trace.split_once("new\n").unwrap();
+    assert!(!calls.0.contains("refuse"), "{trace}");
+    let expected =
+        "alloc 1 100 64 4 Unknown linear managed piece\nbudget 1 0\nalloc 2 100 64 4 Unknown linear managed piece\n\
+        free 1\nfree 2\nbudget 1 none\ndestroy\n";
+    assert_eq!(calls.1, expected);
+    driver.assert_left_empty();
+}
+
+/// Memory, its mapping, and where the first had no room the same of the next memory type.
+#[test]
+fn each_question_by_flags_is_refused_in_turn() {
+    for (question, refusal, expected) in [
+        (1, Refusal::Null, Ok(2)),
+        (1, Refusal::Code(-2), Ok(2)),
+        (1, Refusal::Code(-1), Err(fault("Unexpected error in vkAllocateMemory", Some(-1)))),
+        (2, Refusal::Code(-5), Err(AllocationError::FailedToMap(Fault { text: "vkMapMemory failed", code: Some(-5) }))),
+        (3, Refusal::Null, Ok(1)), // which isn't asked
+    ] {
+        let driver = driver();
+        let mut a = made(driver.device());
+        let anywhere = request(100, 4, 15, MemoryLocation::Unknown);
+        driver.refuse(question, refusal);
+        let it = a.allocate_with(&anywhere, &AllocationOptions::staging());
+        assert_eq!(it.as_ref().map(Allocation::memory_type_index).map_err(|error| *error), expected);
+        assert_eq!(a.capacity(), driver.state().bytes());
+        driver.state().refusals.clear();
+        let again = a.allocate_with(&anywhere, &AllocationOptions::staging()).unwrap();
+        assert_eq!(again.memory_type_index(), 1); // it has room again
+        it.into_iter().chain([again]).for_each(|it| a.free(it).unwrap());
+        drop(a);
+        driver.assert_left_empty();
+    }
+}
+
+#[test]
+fn what_is_there_serves_where_nothing_is_allocated() {
+    let driver = driver();
+    let mut a = made(driver.device());
+    let never = AllocationOptions { never_allocate: true, ..AllocationOptions::default() };
+    let anywhere = request(100, 4, 15, MemoryLocation::Unknown);
+    assert_eq!(a.allocate_with(&anywhere, &never).map(|_| ()), Err(AllocationError::OutOfMemory));
+    let first = a.allocate_with(&anywhere, &AllocationOptions::staging()).unwrap();
+    let questions = driver.state().questions;
+    let second = a.allocate_with(&anywhere, &never).unwrap();
+    assert_eq!(memory(&second), memory(&first));
+    let exported = exported();
+    let own = AllocationOptions { next: Some(chain(&exported)), ..never };
+    assert_eq!(a.allocate_with(&anywhere, &own).map(|_| ()), Err(AllocationError::OutOfMemory));
+    assert_eq!(driver.state().questions, questions);
+    [first, second].into_iter().for_each(|it| a.free(it).unwrap());
+    drop(a);
+    driver.assert_left_empty();
+}
+
+/// Lazily allocated memory for what the driver allows it for; memory for which a feature is enabled where flags speak of it.
+#[test]
+fn memory_of_other_sorts() {
+    let driver = FakeDriver::new(&[(1, 0), (6 | 64, 1), (7, 2), (17, 0)], &HEAPS, 1024);
+    driver.state().needs = Needs { alignment: 16, memory_type_bits: 15, alone: Alone::No };
+    let mut a = made(driver.whole_device());
+    let (attachment, at) = image(&mut a, &image_info(90, 0, 0), &Placement::transient("attachment")).unwrap();
+    assert_eq!((at.memory_type_index(), at.is_dedicated(), asked_for(&driver, &at).image), (3, true, attachment));
+    driver.state().needs.memory_type_bits = 7;
+    let (other, at_other) = image(&mut a, &image_info(90, 0, 0), &Placement::transient("attachment")).unwrap();
+    assert_eq!((at_other.memory_type_index(), at_other.is_dedicated()), (0, true));
+    let (staging, at_staging) = buffer(&mut a, 90, &Placement::staging("staging")).unwrap();
+    assert_eq!((at_staging.memory_type_index(), at_staging.is_dedicated()), (2, false));
+    let anywhere = request(100, 4, 15, MemoryLocation::Unknown);
+    for (options, index) in [(of(6, 0, 1), 2), (of(64, 0, 0), 1), (of(6, 64, 1), 1)] {
+        let it = a.allocate_with(&anywhere, &options).unwrap();
+        assert_eq!(it.memory_type_index(), index);
+        a.free(it).unwrap();
+    }
+    for (it, at) in [(attachment, at), (other, at_other)] {
+        // SAFETY: the image is bound there.
+        unsafe { a.destroy_image(it, at) }.unwrap();
+    }
+    destroy(&mut a, staging, at_staging);
     drop(a);
     driver.assert_left_empty();
 }

@@ -32,6 +32,14 @@ impl MemoryPropertyFlags {
     pub const HOST_COHERENT: Self = MemoryPropertyFlags(4);
     /// The host reads it through its cache.
     pub const HOST_CACHED: Self = MemoryPropertyFlags(8);
+    /// Backed by memory as the device writes there, if at all.
+    pub const LAZILY_ALLOCATED: Self = MemoryPropertyFlags(16);
+    /// The device alone sees it, in protected queues.
+    pub const PROTECTED: Self = MemoryPropertyFlags(32);
+    /// What the device writes it sees itself without barriers (VK_AMD_device_coherent_memory).
+    pub const DEVICE_COHERENT_AMD: Self = MemoryPropertyFlags(64);
+    /// Other devices reach it over a network (VK_NV_external_memory_rdma).
+    pub const RDMA_CAPABLE_NV: Self = MemoryPropertyFlags(256);
 
     /// Whether all of these flags are set.
     pub fn contains(self, flags: Self) -> bool {

@@ -10,7 +10,7 @@ use super::reading;
 use crate::error::{check, copied};
 use crate::memory_type::BlockStatistics;
 use crate::pieces::Visited;
-use crate::raw::{self, AllocatorPiece, DRIVER_REFUSED, FAILED_TO_MAP, NOT_LIVE};
+use crate::raw::{self, AllocatorPiece, Preference, DRIVER_REFUSED, FAILED_TO_MAP, NOT_LIVE};
 use crate::{
     AllocationError, AllocationSizes, AllocatorDebugSettings, AllocatorReport, Fault, Level, Logger, MemoryLocation,
     NamedPiece, Result,
@@ -180,21 +180,27 @@ impl Allocator {
 
     /// Allocates a piece as `allocate` does, with what the options ask for.
     ///
-    /// The errors are those of `allocate`: `InvalidAllocationCreateDesc` for a minimal alignment that is no power of two, too.
+    /// The errors are those of `allocate`: `InvalidAllocationCreateDesc` for a minimal alignment that is no power of two, and for a location
+    /// beside flags, too. By flags the last memory type's counts, and where it never allocates `OutOfMemory` says that no place is there.
     pub fn allocate_with(
         &mut self,
         desc: &AllocationCreateDesc<'_>,
         options: &AllocationOptions<'_>,
     ) -> Result<Allocation> {
         self.log_request(desc);
-        let requirements = self.device().in_whole_atoms(options.narrow(desc.requirements));
+        let preference = options.preference(desc.location)?;
+        let by_flags = preference.is_some();
+        let requirements = options.narrow(desc.requirements, self.device().memory_types(), by_flags);
+        let requirements = self.device().in_whole_atoms(requirements);
         let allocation_scheme = options.scheme(desc.allocation_scheme);
         let desc = AllocationCreateDesc { requirements, allocation_scheme, ..desc.clone() };
         self.requests += 1;
-        let result = self.serve(&desc, options.next);
+        let result = self.serve(&desc, preference.as_ref(), options.next);
         if let Some(capture) = &mut self.capture {
-            match result {
+            match &result {
                 Err(AllocationError::HostOutOfMemory) => capture.undo(),
+                Ok(it) if by_flags => capture.allocated(self.requests, &of_type(&desc, it.memory_type_index())),
+                Err(_) if by_flags => {} // it changed nothing
                 _ => capture.allocated(self.requests, &desc),
             }
         }
@@ -431,22 +437,35 @@ impl Allocator {
     }
 
     /// A request from its beginning to its end.
-    fn serve(&mut self, desc: &AllocationCreateDesc<'_>, next: Option<Chain<'_>>) -> Result<Allocation> {
+    fn serve(
+        &mut self,
+        desc: &AllocationCreateDesc<'_>,
+        preference: Option<&Preference>,
+        next: Option<Chain<'_>>,
+    ) -> Result<Allocation> {
         let name = copied(desc.name)?;
-        let piece = self.place(desc, next)?;
+        let piece = self.place(desc, preference, next)?;
         Ok(Allocation { held: Some(self.held(piece, desc.allocation_scheme)), name: Some(name), user_data: 0 })
     }
 
     /// Asks the driver until the request has a piece, or is refused.
-    fn place(&mut self, desc: &AllocationCreateDesc<'_>, next: Option<Chain<'_>>) -> Result<AllocatorPiece> {
+    fn place(
+        &mut self,
+        desc: &AllocationCreateDesc<'_>,
+        preference: Option<&Preference>,
+        next: Option<Chain<'_>>,
+    ) -> Result<AllocatorPiece> {
         let purpose = Purpose { scheme: desc.allocation_scheme, device_address: self.device_address, next };
-        let mut progress = self.machine.begin(desc)?;
+        let mut progress = match preference {
+            None => self.machine.begin(desc)?,
+            Some(preference) => self.machine.begin_by_flags(desc, preference)?,
+        };
         let mut refusal = None;
         loop {
             progress = match progress {
                 Progress::Piece(piece) => return Ok(piece),
                 Progress::Refused(status) => return Err(error_of(status, refusal)),
-                Progress::Question(question) => match self.ask(&question, purpose) {
+                Progress::Question(question) => match self.ask(&question, purpose, preference.is_some()) {
                     Answer::Granted(memory) => return Ok(self.machine.granted(memory)),
                     Answer::MemoryRefused(refused) => {
                         refusal = Some(refused);
@@ -461,10 +480,14 @@ impl Allocator {
         }
     }
 
-    fn ask(&mut self, question: &Question, purpose: Purpose<'_>) -> Answer {
+    /// Of a request by flags a capture has the attempt that served alone.
+    fn ask(&mut self, question: &Question, purpose: Purpose<'_>, by_flags: bool) -> Answer {
         let answer = self.device().ask(question, purpose);
         if let Some(capture) = &mut self.capture {
             capture.asked(question.mapped, &answer);
+            if by_flags && !matches!(answer, Answer::Granted(_)) {
+                capture.undo();
+            }
         }
         answer
     }
@@ -535,6 +558,12 @@ impl Allocator {
         let name = allocation.name().unwrap_or("<null>");
         self.log(self.debug_settings.log_frees, format_args!("Freeing `{name}`."));
     }
+}
+
+/// The request as one for this memory type alone.
+fn of_type<'a>(desc: &AllocationCreateDesc<'a>, memory_type: usize) -> AllocationCreateDesc<'a> {
+    let requirements = MemoryRequirements { memory_type_bits: 1 << memory_type, ..desc.requirements };
+    AllocationCreateDesc { requirements, ..desc.clone() }
 }
 
 /// Ends the program as Rust's lists do where the host has no memory for them.

@@ -122,6 +122,27 @@ impl Machine {
         &self.device
     }
 
+    /// Begins a request whose memory flags choose. A question that it leads to has to be answered before the next request.
+    pub(super) fn begin_by_flags(
+        &mut self,
+        desc: &AllocationCreateDesc<'_>,
+        preference: &raw::Preference,
+    ) -> Result<Progress> {
+        let mut progress = AllocatorProgress::default();
+        // SAFETY: the handle is this machine's alone, the name's bytes are as many as is said, and all of it outlives the call.
+        check(unsafe {
+            raw::pilhangko_raw_allocator_begin_by_flags(
+                self.handle.as_ptr(),
+                &raw_request(desc),
+                desc.name.as_ptr(),
+                desc.name.len(),
+                preference,
+                &mut progress,
+            )
+        })?;
+        Ok(Progress::from_raw(&progress))
+    }
+
     /// Begins a request. A question that it leads to has to be answered before the next request.
     pub(super) fn begin(&mut self, desc: &AllocationCreateDesc<'_>) -> Result<Progress> {
         let mut progress = AllocatorProgress::default();

@@ -32,6 +32,17 @@ impl<'a> Placement<'a> {
     pub fn new(name: &'a str, location: MemoryLocation) -> Self {
         Placement { name, location, dedicated: false, options: AllocationOptions::default() }
     }
+
+    /// For staging: see [`AllocationOptions::staging`].
+    pub fn staging(name: &'a str) -> Self {
+        Placement { options: AllocationOptions::staging(), ..Placement::new(name, MemoryLocation::Unknown) }
+    }
+
+    /// For a transient attachment: memory of its own, by [`AllocationOptions::transient`].
+    pub fn transient(name: &'a str) -> Self {
+        let options = AllocationOptions::transient();
+        Placement { dedicated: true, options, ..Placement::new(name, MemoryLocation::Unknown) }
+    }
 }
 
 impl Allocator {

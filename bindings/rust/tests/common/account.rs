@@ -3,7 +3,7 @@
 #![allow(dead_code)]
 
 use super::{FakeDriver, Held, Question, Refusal};
-use pilhangko::vulkan::{Allocation, AllocationCreateDesc, AllocationScheme, Buffer, Image};
+use pilhangko::vulkan::{Allocation, AllocationCreateDesc, AllocationOptions, AllocationScheme, Buffer, Image};
 use pilhangko::{AllocationError, AllocationSizes, MemoryLocation};
 use std::collections::BTreeMap;
 
@@ -179,6 +179,90 @@ impl Account {
         let held = *driver.state().held.get(&memory).expect("a piece lies in memory that the driver holds");
         self.enter_block(desc, it, memory, &held);
         self.enter_piece(desc, it, &held);
+    }
+
+    /// The memory types that have all required flags, in the order in which they are attempted: each preferred flag that is missing and each
+    /// avoided one that is there costs one.
+    fn order(&self, desc: &AllocationCreateDesc<'_>, options: &AllocationOptions<'_>) -> Vec<usize> {
+        let required = options.required_flags.0;
+        let serves = |&index: &usize| {
+            desc.requirements.memory_type_bits >> index & 1 == 1 && self.types[index].0 & required == required
+        };
+        let mut order: Vec<usize> = (0..self.types.len()).filter(serves).collect();
+        let cost = |index: usize| {
+            let flags = self.types[index].0;
+            (options.preferred_flags.0 & !flags).count_ones() + (options.avoided_flags.0 & flags).count_ones()
+        };
+        order.sort_by_key(|&index| cost(index)); // which keeps equal ones in order
+        order
+    }
+
+    /// Whether a memory type has no room for a request that needs a block, before the driver is asked.
+    fn has_no_room(&self, memory_type: usize, desc: &AllocationCreateDesc<'_>) -> bool {
+        self.is_above_heap(memory_type, desc.requirements.size) || self.is_above_budget(memory_type, desc)
+    }
+
+    /// Looks at a refusal by flags: of the last memory type, or one that led to no other.
+    pub fn refused_by_flags(
+        &self,
+        desc: &AllocationCreateDesc<'_>,
+        options: &AllocationOptions<'_>,
+        met: &Met,
+        error: &AllocationError,
+    ) {
+        let needs = &desc.requirements;
+        if needs.size == 0 || !needs.alignment.is_power_of_two() {
+            return assert_eq!(*error, AllocationError::InvalidAllocationCreateDesc);
+        }
+        assert!(!options.never_allocate || met.refused.is_empty());
+        let order = self.order(desc, options);
+        let Some(&last) = order.last() else {
+            return assert_eq!(*error, AllocationError::NoCompatibleMemoryTypeFound);
+        };
+        match error {
+            // a block that is needed isn't asked for, where its budget allows it
+            AllocationError::OutOfMemory if options.never_allocate => {
+                assert!(self.is_above_heap(last, needs.size) || !self.is_above_budget(last, desc));
+            }
+            AllocationError::OutOfMemory | AllocationError::BudgetExceeded => {
+                assert!(self.allows(last, desc, met, error), "{desc:?} {options:?} {met:?} {error:?}");
+                let asked = order.iter().filter(|&&index| !self.has_no_room(index, desc)).count();
+                assert_eq!(met.refused.len(), if options.never_allocate { 0 } else { asked });
+            }
+            _ => assert!(order.iter().any(|&index| self.allows(index, desc, met, error)), "{met:?} {error:?}"),
+        }
+    }
+
+    /// Looks at a new allocation by flags, and enters it; whether it isn't in the cheapest memory.
+    pub fn allocated_by_flags(
+        &mut self,
+        driver: &FakeDriver,
+        desc: &AllocationCreateDesc<'_>,
+        options: &AllocationOptions<'_>,
+        met: &Met,
+        it: &Allocation,
+    ) -> bool {
+        let order = self.order(desc, options);
+        let at = order.iter().position(|&index| index == it.memory_type_index()).expect("the memory type serves");
+        if options.never_allocate {
+            assert!(met.refused.is_empty());
+            let block = self.blocks[it.memory_type_index()][it.memory_block_index()].as_ref();
+            assert!(block.is_some_and(|block| block.is_shared)); // it was there
+        } else {
+            let asked = order[..at].iter().filter(|&&index| !self.has_no_room(index, desc)).count();
+            assert_eq!(met.refused.len(), asked);
+            let lacks = |refused: &(Question, Refusal)| {
+                matches!(refused, (Question::Memory, Refusal::Null | Refusal::Code(-2)))
+            };
+            assert!(met.refused.iter().all(lacks));
+        }
+        assert!(!self.must_refuse(it.memory_type_index(), desc));
+        // SAFETY: the handle is only looked up.
+        let memory = unsafe { it.memory() }.0;
+        let held = *driver.state().held.get(&memory).expect("a piece lies in memory that the driver holds");
+        self.enter_block(desc, it, memory, &held);
+        self.enter_piece(desc, it, &held);
+        at > 0
     }
 
     /// Enters the block of an allocation where it is new.

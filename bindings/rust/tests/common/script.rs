@@ -4,8 +4,8 @@
 use super::account::{Account, Met};
 use super::{FakeDriver, Random, Refusal, MB};
 use pilhangko::vulkan::{
-    Allocation, AllocationCreateDesc, AllocationScheme, Allocator, AllocatorCreateDesc, Buffer, Defragmentation,
-    DefragmentationStatistics, Image, MemoryRequirements, MoveKey,
+    Allocation, AllocationCreateDesc, AllocationOptions, AllocationScheme, Allocator, AllocatorCreateDesc, Buffer,
+    Defragmentation, DefragmentationStatistics, Image, MemoryPropertyFlags, MemoryRequirements, MoveKey,
 };
 use pilhangko::{AllocationError, AllocationSizes, MemoryLocation, Result};
 use std::collections::BTreeMap;
@@ -38,6 +38,9 @@ pub struct Script {
     pub driver: Box<FakeDriver>,
     /// How often each outcome came: error numbers, and 0 for success.
     pub outcomes: BTreeMap<u32, u64>,
+    /// How often each outcome came of requests by flags, and how often memory that isn't the cheapest served.
+    pub by_flags: BTreeMap<u32, u64>,
+    pub dearer: u64,
     /// How often a second place was found, and how often there was none.
     pub moves: BTreeMap<bool, u64>,
     pub defragmentation: Defragmentation,
@@ -100,6 +103,18 @@ pub fn description(random: &mut Random) -> AllocationCreateDesc<'static> {
     }
 }
 
+/// Flags that choose: those for staging, or any.
+fn flags(random: &mut Random) -> AllocationOptions<'static> {
+    if random.one_in(3) {
+        return AllocationOptions { never_allocate: random.one_in(4), ..AllocationOptions::staging() };
+    }
+    let mut some = |mask| MemoryPropertyFlags((random.next() & random.next() & mask) as u32);
+    let (required_flags, preferred_flags, avoided_flags) = (some(15), some(31), some(15));
+    let has_none = required_flags.0 | preferred_flags.0 | avoided_flags.0 == 0;
+    let never_allocate = has_none || random.one_in(4);
+    AllocationOptions { required_flags, preferred_flags, avoided_flags, never_allocate, ..AllocationOptions::default() }
+}
+
 /// Where an allocation lies.
 fn place(it: &Allocation) -> (usize, usize, u64) {
     (it.memory_type_index(), it.memory_block_index(), it.offset())
@@ -144,6 +159,8 @@ impl Script {
             replies: vec!["ok".to_owned()],
             driver,
             outcomes: BTreeMap::new(),
+            by_flags: BTreeMap::new(),
+            dearer: 0,
             moves: BTreeMap::new(),
             defragmentation: Defragmentation::new(),
             open: Vec::new(),
@@ -194,6 +211,29 @@ impl Script {
                 mark(&mut it);
                 self.live.push(it);
             }
+        }
+    }
+
+    /// A request whose memory flags choose: a capture has it where it served.
+    pub fn allocate_by_flags(&mut self) {
+        let desc = AllocationCreateDesc { location: MemoryLocation::Unknown, ..description(&mut self.random) };
+        let options = flags(&mut self.random);
+        self.maybe_refuse();
+        self.driver.state().refused.clear();
+        let result = self.allocator.allocate_with(&desc, &options);
+        let met = Met { refused: self.driver.state().refused.clone() };
+        *self.by_flags.entry(result.as_ref().map_or_else(AllocationError::number, |_| 0)).or_default() += 1;
+        match &result {
+            Err(error) => self.account.refused_by_flags(&desc, &options, &met, error),
+            Ok(it) => {
+                self.told_budgets();
+                self.told(reply(&result));
+                self.dearer += u64::from(self.account.allocated_by_flags(&self.driver, &desc, &options, &met, it));
+            }
+        }
+        if let Ok(mut it) = result {
+            mark(&mut it);
+            self.live.push(it);
         }
     }
 
@@ -401,6 +441,7 @@ impl Script {
             4..=8 => self.propose_move(),
             9..=10 if self.random.one_in(4) => self.propose_frame(),
             9..=10 => self.end_move(),
+            it if it < 8 + allocates && self.random.one_in(4) => self.allocate_by_flags(),
             it if it < 8 + allocates => self.allocate(),
             _ => self.free(),
         }
