@@ -60,29 +60,67 @@ static bool is_captured(const struct binding *b) {
     return goes_on(&b->capture);
 }
 
-/* The call `allocate`. An allocation is called by its serial number; one that was refused by the next one's. One that flags chose the memory for
+/* The sum of the sizes of a memory type's blocks, between enter and leave. */
+static VkDeviceSize held_of_type(const struct binding *b, uint32_t memory_type) {
+    uint64_t bytes = 0;
+    const pilhangko_status status = pilhangko_allocator_type_capacity(&b->allocator, memory_type, &bytes);
+    return status == PILHANGKO_OK ? bytes : 0;
+}
+
+/* The sum of the sizes of a heap's blocks, likewise. */
+static VkDeviceSize held_of_heap(const struct binding *b, uint32_t heap) {
+    VkDeviceSize bytes = 0;
+    for (uint32_t i = 0; i < b->properties.memoryTypeCount; i++)
+        if (b->properties.memoryTypes[i].heapIndex == heap) bytes += held_of_type(b, i);
+    return bytes;
+}
+
+/* The bounds of memory types by which the next request is served. A trace has no heap's limit: it bounds each of the heap's memory types by what
+ * the others leave. */
+static void tell_bounds(const struct binding *b, pilhangko_budget *bounds) {
+    for (uint32_t i = 0; i < b->properties.memoryTypeCount; i++) {
+        const uint32_t heap = b->properties.memoryTypes[i].heapIndex;
+        const pilhangko_budget none = {false, 0};
+        pilhangko_budget limit = none;
+        VkDeviceSize others, left;
+        bounds[i] = none;
+        if (pilhangko_allocator_budget(&b->allocator, i, &bounds[i]) != PILHANGKO_OK) return;
+        if (pilhangko_allocator_heap_limit(&b->allocator, heap, &limit) != PILHANGKO_OK || !limit.exists) continue;
+        others = held_of_heap(b, heap) - held_of_type(b, i);
+        left = limit.bytes > others ? limit.bytes - others : 0;
+        if (!bounds[i].exists || left < bounds[i].bytes) bounds[i].bytes = left;
+        bounds[i].exists = true;
+    }
+}
+
+/* The call `allocate`, before which these were the bounds. An allocation is called by its serial number; one that was refused by the next one's. One that flags chose the memory for
  * is one of its memory type alone; where it was refused it changed nothing, and isn't captured. */
-static void capture_call(struct binding *b, const struct wanted *wanted, pilhangko_status status, size_t type, const struct asked *asked) {
+static void capture_call(struct binding *b, const struct wanted *wanted, const pilhangko_budget *bounds, pilhangko_status status, size_t type,
+    const struct asked *asked) {
     pilhangko_allocator_request asks = wanted->asks;
     if (!is_captured(b) || status == PILHANGKO_HOST_OUT_OF_MEMORY || status == PILHANGKO_INVALID) return;
     if (wanted->by_flags && status != PILHANGKO_OK) return;
     if (wanted->by_flags) asks.memory_type_bits = UINT32_C(1) << type;
-    capture_new_budgets(&b->capture, &b->allocator, b->properties.memoryTypeCount);
+    capture_bounds(&b->capture, bounds, b->properties.memoryTypeCount);
     capture_allocation(&b->capture, b->last_serial + 1, &asks, wanted->name, asked);
 }
 
 /* The call `propose_move` of the allocation with this serial number, whether there was a second place or none. */
 static void capture_proposal(struct binding *b, uint64_t from, const struct wanted *wanted) {
+    pilhangko_budget bounds[VK_MAX_MEMORY_TYPES];
     if (!is_captured(b)) return;
-    capture_new_budgets(&b->capture, &b->allocator, b->properties.memoryTypeCount);
+    tell_bounds(b, bounds);
+    capture_bounds(&b->capture, bounds, b->properties.memoryTypeCount);
     capture_move(&b->capture, from, b->last_serial + 1, &wanted->asks, wanted->name);
 }
 
 /* Writes the capture with a last line, and forgets it. */
 static pilhangko_vulkan_capture end_capture(struct binding *b, const char *last_line) {
+    pilhangko_budget bounds[VK_MAX_MEMORY_TYPES];
     struct capture_told ended;
     pilhangko_vulkan_capture told;
-    capture_new_budgets(&b->capture, &b->allocator, b->properties.memoryTypeCount);
+    if (is_captured(b)) tell_bounds(b, bounds);
+    if (is_captured(b)) capture_bounds(&b->capture, bounds, b->properties.memoryTypeCount);
     ended = finish_capture(&b->capture, last_line);
     told.end = (pilhangko_vulkan_capture_end)ended.end;
     told.bytes = ended.bytes;
@@ -193,12 +231,14 @@ static pilhangko_vulkan_result allocate_alone(
     struct binding *b, const pilhangko_vulkan_request *request, pilhangko_vulkan_allocation *allocation) {
     struct wanted wanted;
     pilhangko_allocator_progress progress;
+    pilhangko_budget bounds[VK_MAX_MEMORY_TYPES];
     struct asked asked;
     pilhangko_status status = asks_for(&b->properties, b->atom, request, &wanted);
     if (status != PILHANGKO_OK) return undriven(status);
     /* before the driver is asked, so that nothing can fail behind its grant */
     if (!has_spare(&b->live)) return undriven(PILHANGKO_HOST_OUT_OF_MEMORY);
     memset(&asked, 0, sizeof asked);
+    if (is_captured(b)) tell_bounds(b, bounds);
     status = begin(b, &wanted, &progress);
     while (status == PILHANGKO_OK && progress.kind == PILHANGKO_PROGRESS_QUESTION) {
         if (wanted.by_flags) forget_questions(&asked);
@@ -206,7 +246,7 @@ static pilhangko_vulkan_result allocate_alone(
     }
     if (status == PILHANGKO_OK) status = progress.status;
     if (status == PILHANGKO_OK && wanted.by_flags && asked.refusals > 0) forget_questions(&asked); /* the last one's place was there */
-    capture_call(b, &wanted, status, status == PILHANGKO_OK ? progress.piece.memory_type : 0, &asked);
+    capture_call(b, &wanted, bounds, status, status == PILHANGKO_OK ? progress.piece.memory_type : 0, &asked);
     if (status != PILHANGKO_OK) return result_of(status, asked.driver);
     keep_allocation(b, &progress.piece, wanted.asks.scheme != PILHANGKO_SCHEME_MANAGED, allocation);
     return undriven(PILHANGKO_OK);
@@ -654,23 +694,6 @@ pilhangko_status PILHANGKO_CALL pilhangko_vulkan_destroy_image(
 
 /* ---- budgets ---- */
 
-/* The sum of the sizes of a memory type's blocks, between enter and leave. */
-static VkDeviceSize held_of_type(const struct binding *b, uint32_t memory_type) {
-    uint64_t bytes = 0;
-    const pilhangko_status status = pilhangko_allocator_type_capacity(&b->allocator, memory_type, &bytes);
-    return status == PILHANGKO_OK ? bytes : 0;
-}
-
-/* The sum of the sizes of a heap's blocks. */
-static VkDeviceSize held_of_heap(const struct binding *binding, uint32_t heap) {
-    struct binding *b = enter(binding);
-    VkDeviceSize bytes = 0;
-    for (uint32_t i = 0; i < b->properties.memoryTypeCount; i++)
-        if (b->properties.memoryTypes[i].heapIndex == heap) bytes += held_of_type(b, i);
-    leave(b);
-    return bytes;
-}
-
 /* What the driver tells of its heaps now. */
 static void read_budgets(const struct binding *b, VkPhysicalDeviceMemoryBudgetPropertiesEXT *budgets) {
     VkPhysicalDeviceMemoryProperties2 properties;
@@ -692,7 +715,9 @@ pilhangko_status PILHANGKO_CALL pilhangko_vulkan_read_heap(const pilhangko_vulka
     memset(read, 0, sizeof *read);
     read->size = b->properties.memoryHeaps[heap].size;
     read->flags = b->properties.memoryHeaps[heap].flags;
+    (void)enter(b);
     read->held = held_of_heap(b, heap);
+    leave(binding_of(vulkan));
     read->has_budget = b->memory_budget;
     if (!b->memory_budget) return PILHANGKO_OK;
     read_budgets(b, &budgets);
@@ -701,23 +726,15 @@ pilhangko_status PILHANGKO_CALL pilhangko_vulkan_read_heap(const pilhangko_vulka
     return PILHANGKO_OK;
 }
 
-/* Between enter and leave. */
-static pilhangko_status set_budget(struct binding *b, uint32_t memory_type, bool has_budget, VkDeviceSize bytes) {
-    const pilhangko_status status = pilhangko_allocator_set_budget(&b->allocator, memory_type, has_budget, bytes);
-    if (status == PILHANGKO_OK) b->capture.has_new_budgets = true;
-    return status;
-}
-
-/* Sets the bound of each memory type to what its heap still gives, between enter and leave: no block comes or goes meanwhile. */
+/* Limits each heap to what it has and what the driver still gives, between enter and leave: no block comes or goes meanwhile. */
 static pilhangko_status follow_driver(struct binding *b) {
     VkPhysicalDeviceMemoryBudgetPropertiesEXT budgets;
     pilhangko_status status = PILHANGKO_OK;
     read_budgets(b, &budgets);
-    for (uint32_t i = 0; i < b->properties.memoryTypeCount && status == PILHANGKO_OK; i++) {
-        const uint32_t heap = b->properties.memoryTypes[i].heapIndex;
+    for (uint32_t heap = 0; heap < b->properties.memoryHeapCount && status == PILHANGKO_OK; heap++) {
         const VkDeviceSize usage = budgets.heapUsage[heap], budget = budgets.heapBudget[heap];
-        const VkDeviceSize left = budget > usage ? budget - usage : 0, held = held_of_type(b, i);
-        status = set_budget(b, i, true, left <= UINT64_MAX - held ? held + left : UINT64_MAX);
+        const VkDeviceSize left = budget > usage ? budget - usage : 0, held = held_of_heap(b, heap);
+        status = pilhangko_allocator_set_heap_limit(&b->allocator, heap, true, left <= UINT64_MAX - held ? held + left : UINT64_MAX);
     }
     return status;
 }
@@ -741,7 +758,7 @@ pilhangko_status PILHANGKO_CALL pilhangko_vulkan_set_budget(
     if (!vulkan) return PILHANGKO_NULL_POINTER;
     if (!vulkan->opaque) return PILHANGKO_NO_HANDLE;
     b = enter(binding_of(vulkan));
-    status = set_budget(b, memory_type, has_budget, bytes);
+    status = pilhangko_allocator_set_budget(&b->allocator, memory_type, has_budget, bytes);
     leave(b);
     return status;
 }
@@ -753,6 +770,30 @@ pilhangko_status PILHANGKO_CALL pilhangko_vulkan_budget(const pilhangko_vulkan *
     if (!vulkan->opaque) return PILHANGKO_NO_HANDLE;
     b = enter(binding_of(vulkan));
     status = pilhangko_allocator_budget(&b->allocator, memory_type, budget);
+    leave(b);
+    return status;
+}
+
+pilhangko_status PILHANGKO_CALL pilhangko_vulkan_set_heap_limit(
+    pilhangko_vulkan *vulkan, uint32_t heap, bool has_limit, VkDeviceSize bytes) {
+    struct binding *b;
+    pilhangko_status status;
+    if (!vulkan) return PILHANGKO_NULL_POINTER;
+    if (!vulkan->opaque) return PILHANGKO_NO_HANDLE;
+    b = enter(binding_of(vulkan));
+    status = pilhangko_allocator_set_heap_limit(&b->allocator, heap, has_limit, bytes);
+    leave(b);
+    if (status == PILHANGKO_NO_SUCH_HEAP) return PILHANGKO_VULKAN_NO_SUCH_HEAP;
+    return status;
+}
+
+pilhangko_status PILHANGKO_CALL pilhangko_vulkan_heap_limit(const pilhangko_vulkan *vulkan, uint32_t heap, pilhangko_budget *limit) {
+    struct binding *b;
+    pilhangko_status status;
+    if (!vulkan || !limit) return PILHANGKO_NULL_POINTER;
+    if (!vulkan->opaque) return PILHANGKO_NO_HANDLE;
+    b = enter(binding_of(vulkan));
+    status = pilhangko_allocator_heap_limit(&b->allocator, heap, limit);
     leave(b);
     return status;
 }

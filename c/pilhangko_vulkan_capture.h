@@ -63,16 +63,10 @@ static inline void trace_refusals(const struct capture *c, const struct asked *a
             asked->refused[i].code);
 }
 
-/* The bounds as they are now, where they are others than those that were written last. Bounds count where something is allocated: one that
+/* The bounds of memory types, where they are others than those that were written last. Bounds count where something is allocated: one that
  * was changed again before that isn't written. */
-static inline void capture_new_budgets(struct capture *c, const pilhangko_allocator *allocator, uint32_t types) {
-    if (!goes_on(c) || !c->has_new_budgets) return;
-    c->has_new_budgets = false;
-    for (uint32_t i = 0; i < types && goes_on(c); i++) {
-        pilhangko_budget now;
-        if (pilhangko_allocator_budget(allocator, i, &now) != PILHANGKO_OK) return;
-        capture_budget(c, i, &now);
-    }
+static inline void capture_bounds(struct capture *c, const pilhangko_budget *bounds, uint32_t types) {
+    for (uint32_t i = 0; i < types && goes_on(c); i++) capture_budget(c, i, &bounds[i]);
 }
 
 /* A request in a trace's words. */

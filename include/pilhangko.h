@@ -748,6 +748,10 @@ PILHANGKO_NODISCARD PILHANGKO_API pilhangko_status PILHANGKO_CALL pilhangko_raw_
     pilhangko_allocator *allocator, size_t memory_type, bool has_budget, uint64_t bytes);
 PILHANGKO_NODISCARD PILHANGKO_API pilhangko_status PILHANGKO_CALL pilhangko_raw_allocator_budget(
     const pilhangko_allocator *allocator, size_t memory_type, pilhangko_budget *budget);
+PILHANGKO_NODISCARD PILHANGKO_API pilhangko_status PILHANGKO_CALL pilhangko_raw_allocator_set_heap_limit(
+    pilhangko_allocator *allocator, size_t heap, bool has_limit, uint64_t bytes);
+PILHANGKO_NODISCARD PILHANGKO_API pilhangko_status PILHANGKO_CALL pilhangko_raw_allocator_heap_limit(
+    const pilhangko_allocator *allocator, size_t heap, pilhangko_budget *limit);
 PILHANGKO_NODISCARD PILHANGKO_API pilhangko_status PILHANGKO_CALL pilhangko_raw_allocator_capacity(
     const pilhangko_allocator *allocator, uint64_t *bytes);
 PILHANGKO_NODISCARD PILHANGKO_API pilhangko_status PILHANGKO_CALL pilhangko_raw_allocator_best_type(
@@ -1413,6 +1417,23 @@ PILHANGKO_NODISCARD static inline pilhangko_status pilhangko_allocator_budget(
     const pilhangko_allocator *allocator, size_t memory_type, pilhangko_budget *budget) {
     if (!allocator || !budget) return PILHANGKO_NULL_POINTER;
     return pilhangko_raw_allocator_budget(allocator, memory_type, budget);
+}
+
+/* Bounds the sum of the sizes of the blocks that lie in a heap, of whichever memory type, in bytes, or takes the bound away. A bound below the
+ * present sum gives no block back: requests that need a block above it are refused, as by a budget.
+ * NO_HANDLE. AWAITS_ANSWER. NO_SUCH_HEAP. */
+PILHANGKO_NODISCARD static inline pilhangko_status pilhangko_allocator_set_heap_limit(
+    pilhangko_allocator *allocator, size_t heap, bool has_limit, uint64_t bytes) {
+    if (!allocator) return PILHANGKO_NULL_POINTER;
+    return pilhangko_raw_allocator_set_heap_limit(allocator, heap, has_limit, bytes);
+}
+
+/* The limit of a heap; none where it has none, or isn't there.
+ * NO_HANDLE. */
+PILHANGKO_NODISCARD static inline pilhangko_status pilhangko_allocator_heap_limit(
+    const pilhangko_allocator *allocator, size_t heap, pilhangko_budget *limit) {
+    if (!allocator || !limit) return PILHANGKO_NULL_POINTER;
+    return pilhangko_raw_allocator_heap_limit(allocator, heap, limit);
 }
 
 /* The sum of the sizes of the live blocks. A block that is awaited isn't one.

@@ -509,8 +509,7 @@ typedef struct pilhangko_vulkan_heap {
 PILHANGKO_NODISCARD PILHANGKO_API pilhangko_status PILHANGKO_CALL pilhangko_vulkan_read_heap(
     const pilhangko_vulkan *vulkan, uint32_t heap, pilhangko_vulkan_heap *read);
 
-/* Bounds each memory type by what it holds and what its heap has left now, by the driver: once a frame, say. Memory types of one heap share
- * what is left: until the next call they may take it more than once.
+/* Limits each heap to what this binding holds there and what the heap has left now, by the driver: once a frame, say.
  * NULL_POINTER. NO_HANDLE. NO_BUDGETS. */
 PILHANGKO_NODISCARD PILHANGKO_API pilhangko_status PILHANGKO_CALL pilhangko_vulkan_update_budgets(pilhangko_vulkan *vulkan);
 
@@ -520,6 +519,15 @@ PILHANGKO_NODISCARD PILHANGKO_API pilhangko_status PILHANGKO_CALL pilhangko_vulk
     pilhangko_vulkan *vulkan, uint32_t memory_type, bool has_budget, VkDeviceSize bytes);
 PILHANGKO_NODISCARD PILHANGKO_API pilhangko_status PILHANGKO_CALL pilhangko_vulkan_budget(
     const pilhangko_vulkan *vulkan, uint32_t memory_type, pilhangko_budget *budget);
+
+/* Limits the sum of the sizes of the blocks of all memory types that lie in a heap, or takes the limit away; and the limit, none where the heap has
+ * none or isn't there. As with a pilhangko_allocator. (A trace has no limits: a capture bounds each memory type of the heap by what the others
+ * leave, as it changes, and so is refused the same.)
+ * NULL_POINTER. NO_HANDLE. And of set_heap_limit, PILHANGKO_VULKAN_NO_SUCH_HEAP. */
+PILHANGKO_NODISCARD PILHANGKO_API pilhangko_status PILHANGKO_CALL pilhangko_vulkan_set_heap_limit(
+    pilhangko_vulkan *vulkan, uint32_t heap, bool has_limit, VkDeviceSize bytes);
+PILHANGKO_NODISCARD PILHANGKO_API pilhangko_status PILHANGKO_CALL pilhangko_vulkan_heap_limit(
+    const pilhangko_vulkan *vulkan, uint32_t heap, pilhangko_budget *limit);
 
 /* ---- What else the allocator tells ---- */
 

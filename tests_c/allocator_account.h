@@ -8,6 +8,7 @@
 #include "type_account.h"
 
 #define ACCOUNT_TYPES 6
+#define ACCOUNT_HEAPS 4
 
 /* Vulkan's flags of a memory type: 1 the device's own, 2 seen by the host, 4 coherent, 8 cached; by PILHANGKO_LOCATION_.. */
 static const uint32_t preferred_flags[] = {0, 0, 1, 7, 14}, required_flags[] = {0, 0, 1, 6, 6};
@@ -16,6 +17,10 @@ struct allocator_account {
     size_t type_count;
     uint32_t flags[ACCOUNT_TYPES];
     uint64_t heap_size[ACCOUNT_TYPES]; /* of each memory type's heap */
+    size_t heap[ACCOUNT_TYPES];        /* and its index */
+    size_t heap_count;
+    bool has_limit[ACCOUNT_HEAPS];
+    uint64_t limit[ACCOUNT_HEAPS]; /* of each heap's blocks, where it has one */
     struct type_account types[ACCOUNT_TYPES];
     /* the request that is under way, or was last */
     pilhangko_allocator_request request;
@@ -32,6 +37,27 @@ static inline uint64_t allocator_capacity(const struct allocator_account *a) {
     uint64_t sum = 0;
     for (size_t i = 0; i < a->type_count; i++) sum += type_capacity(&a->types[i]);
     return sum;
+}
+
+/* Whether the block that a memory type needs would be above its heap's limit, beside the blocks of all that heap's memory types. */
+static inline bool is_above_limit(const struct allocator_account *a, size_t type) {
+    const size_t heap = a->heap[type];
+    uint64_t sum = a->placed.block_size;
+    if (!a->has_limit[heap]) return false;
+    for (size_t i = 0; i < a->type_count; i++)
+        if (a->heap[i] == heap) sum += type_capacity(&a->types[i]);
+    return sum > a->limit[heap];
+}
+
+/* Allocates in a memory type, where the request is within its heap and a block that it needs within that heap's limit. */
+static inline pilhangko_status allocate_in_type(struct allocator_account *a, size_t type, const pilhangko_memory_request *request, bool asks) {
+    pilhangko_status status;
+    a->type = type;
+    if (request->size > a->heap_size[type]) return PILHANGKO_OUT_OF_MEMORY;
+    status = type_allocate(&a->types[type], request, a->name, allocator_capacity(a), &a->placed);
+    if (status != PILHANGKO_OK || !a->placed.needs_block) return status;
+    if (!asks) return PILHANGKO_OUT_OF_MEMORY;
+    return is_above_limit(a, type) ? PILHANGKO_BUDGET_EXCEEDED : PILHANGKO_OK;
 }
 
 /* The first memory type that is allowed and has the flags, or the count of memory types. */
@@ -79,11 +105,8 @@ static inline bool lacks_room(pilhangko_status status) {
 static inline pilhangko_status account_go_down(struct allocator_account *a, pilhangko_status last) {
     const pilhangko_memory_request request = attempt_request(a);
     for (size_t type = cheapest_type(a); type < a->type_count; type = cheapest_type(a)) {
-        a->type = type;
         a->left &= ~(UINT32_C(1) << type);
-        last = PILHANGKO_OUT_OF_MEMORY;
-        if (request.size <= a->heap_size[type]) last = type_allocate(&a->types[type], &request, a->name, allocator_capacity(a), &a->placed);
-        if (last == PILHANGKO_OK && a->placed.needs_block && a->preference.never_allocate) last = PILHANGKO_OUT_OF_MEMORY;
+        last = allocate_in_type(a, type, &request, !a->preference.never_allocate);
         if (last == PILHANGKO_OK) a->awaits_answer = a->placed.needs_block;
         if (!lacks_room(last)) break;
     }
@@ -97,9 +120,7 @@ static inline pilhangko_status account_second_attempt(struct allocator_account *
 /* Attempts the request at a memory type: it leads to a piece, to a question, or to its refusal. */
 static inline pilhangko_status account_attempt(struct allocator_account *a, size_t type) {
     pilhangko_memory_request request = attempt_request(a);
-    pilhangko_status status = PILHANGKO_OUT_OF_MEMORY;
-    a->type = type;
-    if (request.size <= a->heap_size[type]) status = type_allocate(&a->types[type], &request, a->name, allocator_capacity(a), &a->placed);
+    const pilhangko_status status = allocate_in_type(a, type, &request, true);
     if (status != PILHANGKO_OK) return account_second_attempt(a, status);
     a->awaits_answer = a->placed.needs_block;
     return PILHANGKO_OK;

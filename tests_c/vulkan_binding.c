@@ -861,13 +861,33 @@ static void captured_budgets(void) {
     IS(pilhangko_vulkan_free(&vulkan, &a), PILHANGKO_OK);
     const pilhangko_vulkan_allocation c = allocates(&vulkan, &r);
     IS(pilhangko_vulkan_set_budget(&vulkan, 0, false, 0), PILHANGKO_OK);
+    IS(pilhangko_vulkan_set_heap_limit(&vulkan, 0, false, 0), PILHANGKO_OK);
     IS(pilhangko_vulkan_free(&vulkan, &b), PILHANGKO_OK);
     IS(pilhangko_vulkan_free(&vulkan, &c), PILHANGKO_OK);
     IS(pilhangko_vulkan_destroy(&vulkan, NULL), PILHANGKO_OK);
     is_written(DEVICE_LINES "new\nbudget 0 104857600\nbudget 1 104857599\nbudget 2 104857598\nbudget 3 104857599\nbudget 4 104857599\n"
                             "alloc 1 100 4 1 GpuOnly linear managed row\nalloc 2 100 4 1 GpuOnly linear managed row\nfree 1\n"
-                            "budget 2 none\nbudget 4 10\nalloc 3 100 4 1 GpuOnly linear managed row\nfree 2\nfree 3\nbudget 0 none\n"
+                            "budget 4 10\nalloc 3 100 4 1 GpuOnly linear managed row\nfree 2\nfree 3\nbudget 0 none\n"
                             "destroy\n");
+}
+
+/* A heap's limit bounds each of its memory types by what the others leave, as they come and go: 1, 3 and 4 lie in one heap. */
+static void captured_limits(void) {
+    const pilhangko_vulkan_request host = asks(100, 2, PILHANGKO_LOCATION_UNKNOWN), cached = asks(3 * MB, 16, PILHANGKO_LOCATION_UNKNOWN),
+                                   upload = asks(5 * MB, 6, PILHANGKO_LOCATION_CPU_TO_GPU);
+    pilhangko_vulkan vulkan = captured(sizeof written.bytes);
+    IS(pilhangko_vulkan_set_heap_limit(&vulkan, 1, true, 8 * MB), PILHANGKO_OK);
+    const pilhangko_vulkan_allocation a = allocates(&vulkan, &host), b = allocates(&vulkan, &cached);
+    is_refused(&vulkan, &cached, PILHANGKO_BUDGET_EXCEEDED, VK_SUCCESS); /* a block of 8 MB would be needed */
+    IS(pilhangko_vulkan_set_heap_limit(&vulkan, 2, true, 5 * MB - 1), PILHANGKO_OK);
+    is_refused(&vulkan, &upload, PILHANGKO_BUDGET_EXCEEDED, VK_SUCCESS); /* both attempts: 4 MB are left of one heap, none of the other */
+    IS(pilhangko_vulkan_free(&vulkan, &b), PILHANGKO_OK);
+    IS(pilhangko_vulkan_free(&vulkan, &a), PILHANGKO_OK);
+    IS(pilhangko_vulkan_destroy(&vulkan, NULL), PILHANGKO_OK);
+    is_written(DEVICE_LINES "new\nbudget 1 8388608\nbudget 3 8388608\nbudget 4 8388608\nalloc 1 100 4 2 Unknown linear managed row\n"
+                            "budget 3 4194304\nbudget 4 4194304\nalloc 2 3145728 4 16 Unknown linear managed row\n"
+                            "budget 1 4194304\nbudget 3 0\nalloc 3 3145728 4 16 Unknown linear managed row\n"
+                            "budget 2 5242879\nalloc 3 5242880 4 6 CpuToGpu linear managed row\nfree 2\nfree 1\ndestroy\n");
 }
 
 /* The capture of pairs of an allocation and its free, each with a number of its own: it goes on to `end` in whole lines. Returns how many
@@ -938,6 +958,7 @@ int main(void) {
     each_host_request_refused();
     captures_by_hand();
     captured_budgets();
+    captured_limits();
     too_long_captures();
     unwritten_captures();
     return 0;

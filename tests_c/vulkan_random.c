@@ -27,6 +27,7 @@ static pilhangko_vulkan_allocation stale[STALE];
 static uint64_t last_serial;
 static FILE *replies;                                    /* what the captured calls came to, or NULL */
 static pilhangko_budget captured_budgets[ACCOUNT_TYPES]; /* as the capture has them by now */
+static pilhangko_budget bounds[ACCOUNT_TYPES];           /* as they were before the request */
 static unsigned allocated, made, refused, second_attempts, freed, not_live, renamed, flushed, shared_after_all, moved, stayed;
 static unsigned finished, emptied, abandoned, not_open, chained, flagged, dearer;
 
@@ -44,13 +45,34 @@ static void reply(const char *line) {
     if (replies) fprintf(replies, "%s\n", line);
 }
 
+static uint64_t held_in(size_t heap) {
+    uint64_t bytes = 0;
+    for (size_t i = 0; i < account.type_count; i++) bytes += account.heap[i] == heap ? type_capacity(&account.types[i]) : 0;
+    return bytes;
+}
+
+/* The bound of a memory type: its own, or what the other memory types of its heap leave of that heap's limit. */
+static pilhangko_budget bound_of(size_t type) {
+    const size_t heap = account.heap[type];
+    const uint64_t others = held_in(heap) - type_capacity(&account.types[type]), limit = account.limit[heap];
+    pilhangko_budget bound = {account.types[type].has_budget, account.types[type].has_budget ? account.types[type].budget : 0};
+    if (!account.has_limit[heap]) return bound;
+    if (!bound.exists || bound.bytes > (limit > others ? limit - others : 0)) bound.bytes = limit > others ? limit - others : 0;
+    bound.exists = true;
+    return bound;
+}
+
 /* Before an allocation and at the end the capture has those bounds that are others than before. */
 static void reply_budgets(void) {
     for (size_t i = 0; i < account.type_count; i++) {
-        const pilhangko_budget now = {account.types[i].has_budget, account.types[i].has_budget ? account.types[i].budget : 0};
-        if (now.exists != captured_budgets[i].exists || now.bytes != captured_budgets[i].bytes) reply("ok");
-        captured_budgets[i] = now;
+        if (bounds[i].exists != captured_budgets[i].exists || bounds[i].bytes != captured_budgets[i].bytes) reply("ok");
+        captured_budgets[i] = bounds[i];
     }
+}
+
+/* Those that are captured, if anything is, before what comes next. */
+static void looks_at_bounds(void) {
+    for (size_t i = 0; i < account.type_count; i++) bounds[i] = bound_of(i);
 }
 
 static void reply_place(size_t type, const pilhangko_memory_piece *p, bool dedicated, bool mapped) {
@@ -111,6 +133,7 @@ static void foretell_answer(struct foretold *f, uint64_t first) {
 
 /* What the account makes of a request whose first question would be the one behind `first`; flags choose where there are some. */
 static struct foretold foretell(const pilhangko_allocator_request *request, const pilhangko_preference *flags, uint64_t first) {
+    looks_at_bounds();
     struct foretold f = {flags ? account_begin_by_flags(&account, request, "", flags) : account_begin_request(&account, request, ""), 0, VK_SUCCESS};
     while (f.status == PILHANGKO_OK && account.awaits_answer) foretell_answer(&f, first);
     if (f.status == PILHANGKO_OK) f.driver = VK_SUCCESS;
@@ -490,6 +513,7 @@ static void moves_one(void) {
     const pilhangko_memory_request asks = {a.size, it.alignment, it.kind, false};
     const bool is_of_it = request.requirements.size == a.size && request.scheme == PILHANGKO_SCHEME_MANAGED;
     const pilhangko_status status = i == live_count ? PILHANGKO_NOT_LIVE : is_of_it ? PILHANGKO_OK : PILHANGKO_INVALID;
+    looks_at_bounds();
     if (status == PILHANGKO_OK) account.type = a.piece.memory_type;
     const bool wanted = status == PILHANGKO_OK &&
                         type_place(&account.types[account.type], a.piece.piece.slot + 1, &asks, "", &account.placed.piece);
@@ -541,6 +565,7 @@ static void is_counted(void) {
 /* The moves of a frame by the account: the indices of the allocations, and their second places. A capture has those that stay, too. */
 static size_t foretell_frame(VkDeviceSize bytes, size_t room, size_t *indices, pilhangko_memory_piece *places) {
     size_t found = 0;
+    looks_at_bounds();
     for (size_t slot = 0; slot < ACCOUNT_SLOTS; slot++)
         for (size_t i = 0; i < live_count && found < room; i++) {
             const pilhangko_vulkan_allocation *a = &live[i].allocation;
@@ -696,18 +721,32 @@ static void sets_budget(void) {
     CHECK(told.exists == (type < account.type_count && has) && told.bytes == (told.exists ? bytes : 0));
 }
 
-/* Each memory type is bound by what it has and what its heap has left by the driver. */
+static void sets_limit(void) {
+    const uint32_t heap = (uint32_t)random_below(4);
+    const bool has = random_below(2) == 0;
+    const uint64_t bytes = random_below(100 * MB);
+    pilhangko_budget told;
+    IS(pilhangko_vulkan_set_heap_limit(&vulkan, heap, has, bytes), heap < 3 ? (pilhangko_status)PILHANGKO_OK : PILHANGKO_VULKAN_NO_SUCH_HEAP);
+    if (heap < 3) {
+        account.has_limit[heap] = has;
+        account.limit[heap] = bytes;
+    }
+    IS(pilhangko_vulkan_heap_limit(&vulkan, heap, &told), PILHANGKO_OK);
+    CHECK(told.exists == (heap < 3 && has) && told.bytes == (told.exists ? bytes : 0));
+}
+
+/* Each heap is limited to what it has and what the driver has left of it; the bounds of memory types stay. */
 static void updates_budgets(void) {
     fake.usage = random_below(64 * MB);
     fake.budget = random_below(256 * MB);
     IS(pilhangko_vulkan_update_budgets(&vulkan), PILHANGKO_OK);
-    for (uint32_t i = 0; i < account.type_count; i++) {
-        const uint64_t usage = fake.usage + fake_types[i].heapIndex, left = fake.budget > usage ? fake.budget - usage : 0;
+    for (uint32_t heap = 0; heap < 3; heap++) {
+        const uint64_t usage = fake.usage + heap, left = fake.budget > usage ? fake.budget - usage : 0;
         pilhangko_budget told;
-        account.types[i].has_budget = true;
-        account.types[i].budget = type_capacity(&account.types[i]) + left;
-        IS(pilhangko_vulkan_budget(&vulkan, i, &told), PILHANGKO_OK);
-        CHECK(told.exists && told.bytes == account.types[i].budget);
+        account.has_limit[heap] = true;
+        account.limit[heap] = held_in(heap) + left;
+        IS(pilhangko_vulkan_heap_limit(&vulkan, heap, &told), PILHANGKO_OK);
+        CHECK(told.exists && told.bytes == account.limit[heap]);
     }
 }
 
@@ -748,7 +787,8 @@ static void step(void) {
         if (what < 930) flushes();
         else if (what < 970) renames();
         else if (what < 985) looks();
-        else if (what < 998) sets_budget();
+        else if (what < 992) sets_budget();
+        else if (what < 998) sets_limit();
         else updates_budgets();
     } else if (live_count < LIVE && what >= 820) {
         moves_one();
@@ -782,10 +822,13 @@ static void begins(FILE *capture) {
     memset(&defragmentation, 0, sizeof defragmentation);
     memset(&counted, 0, sizeof counted);
     account.type_count = 5;
+    account.heap_count = 3;
+    memset(account.has_limit, 0, sizeof account.has_limit);
     account.awaits_answer = false;
     for (size_t i = 0; i < 5; i++) {
         account.flags[i] = fake_types[i].propertyFlags;
-        account.heap_size[i] = fake_heaps[fake_types[i].heapIndex].size;
+        account.heap[i] = fake_types[i].heapIndex;
+        account.heap_size[i] = fake_heaps[account.heap[i]].size;
         type_begin(&account.types[i], 4 * MB, account.flags[i] & 2 ? 8 * MB : 4 * MB, FAKE_GRANULARITY);
     }
     IS(pilhangko_vulkan_create(&vulkan, &settings), PILHANGKO_OK);
@@ -798,13 +841,16 @@ static void ends(void) {
     ends_moves();
     looks();
     while (live_count > 7) {
-        IS(frees_one(&live[live_count - 1], &live[live_count - 1].allocation), PILHANGKO_OK);
-        live_count--;
+        const struct live it = live[--live_count];
+        const pilhangko_allocator_piece *piece = &it.allocation.piece;
+        IS(frees_one(&it, &it.allocation), PILHANGKO_OK);
+        type_free(&account.types[piece->memory_type], &piece->piece, allocator_find(&account, piece));
         reply("ok");
     }
     IS(pilhangko_vulkan_destroy(&vulkan, &ending), PILHANGKO_OK);
     CHECK(ending.leaks == live_count && fake.memory_count == 0);
     CHECK(ending.capture.end == (replies ? PILHANGKO_VULKAN_CAPTURE_WHOLE : PILHANGKO_VULKAN_CAPTURE_NONE));
+    looks_at_bounds();
     reply_budgets();
     reply("held 0");
     for (size_t i = 0; i < live_count; i++) { /* the buffers and images of the leaks */

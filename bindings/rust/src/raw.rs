@@ -612,6 +612,13 @@ extern "C" {
         memory_type: usize,
         budget: *mut Budget,
     ) -> u32;
+    pub(crate) fn pilhangko_raw_allocator_set_heap_limit(
+        allocator: *mut Handle,
+        heap: usize,
+        has_limit: bool,
+        bytes: u64,
+    ) -> u32;
+    pub(crate) fn pilhangko_raw_allocator_heap_limit(allocator: *mut Handle, heap: usize, limit: *mut Budget) -> u32;
     pub(crate) fn pilhangko_raw_allocator_capacity(allocator: *mut Handle, bytes: *mut u64) -> u32;
     pub(crate) fn pilhangko_raw_allocator_type_capacity(
         allocator: *mut Handle,

@@ -517,15 +517,16 @@ fn budgets_follow_the_driver() {
     assert_eq!(a.read_heap(2), Some(Heap { size: 24 * MB, flags: 0, held: 0, budget: Some(told) }));
     assert_eq!(a.read_heap(3), None);
     a.update_budgets().unwrap();
-    assert_eq!([0, 1, 2, 3].map(|index| a.budget(index)), [24, 20, 20, 20].map(|bytes| Some(bytes * MB)));
+    assert_eq!([0, 1, 2].map(|heap| a.heap_limit(heap)), [24, 20, 20].map(|bytes| Some(bytes * MB)));
+    assert_eq!((a.budget(0), a.heap_limit(3)), (None, None));
     driver.state().told = (30 * MB, 10 * MB); // nothing is left
     a.update_budgets().unwrap();
-    assert_eq!([0, 1].map(|index| a.budget(index)), [Some(4 * MB), Some(0)]);
+    assert_eq!([0, 1].map(|heap| a.heap_limit(heap)), [Some(4 * MB), Some(0)]);
     let refused = a.allocate(&request(100, 4, 2, MemoryLocation::Unknown)).map(|_| ());
     assert_eq!(refused, Err(AllocationError::BudgetExceeded));
     driver.state().told = (0, u64::MAX - 16);
     a.update_budgets().unwrap();
-    assert_eq!(a.budget(0), Some(u64::MAX));
+    assert_eq!(a.heap_limit(0), Some(u64::MAX));
     assert_eq!((a.type_capacity(0), a.type_capacity(1), a.type_capacity(4)), (Some(4 * MB), Some(0), None));
     a.free(first).unwrap();
     drop(a);
@@ -533,6 +534,36 @@ fn budgets_follow_the_driver() {
     assert_eq!(a.update_budgets(), Err(fault("The device tells of no budgets.", None)));
     assert_eq!(a.read_heap(1), Some(Heap { size: 512 * MB, flags: 0, held: 0, budget: None }));
     drop(a);
+    driver.assert_left_empty();
+}
+
+/// Memory types 1 and 3 lie in one heap, and together keep its limit; a capture has what the others leave.
+#[test]
+fn memory_types_of_a_heap_share_its_limit() {
+    let driver = driver();
+    let desc = AllocatorCreateDesc {
+        allocation_sizes: AllocationSizes::new(4 * MB, 4 * MB),
+        capture: true,
+        ..AllocatorCreateDesc::new(driver.device())
+    };
+    let mut a = Allocator::new(&desc).unwrap();
+    assert_eq!(a.set_heap_limit(3, Some(1)), Err(fault("No such memory heap.", None)));
+    a.set_heap_limit(1, Some(8 * MB)).unwrap();
+    let [first, second] = [2, 8].map(|bits| a.allocate(&request(MB, 64, bits, MemoryLocation::Unknown)).unwrap());
+    let large = request(4 * MB, 64, 2, MemoryLocation::Unknown);
+    assert_eq!(a.allocate(&large).map(|_| ()), Err(AllocationError::BudgetExceeded));
+    a.set_budget(1, Some(5 * MB)).unwrap(); // which is more than the limit leaves
+    a.free(second).unwrap(); // its block stays, the only shared one
+    a.set_heap_limit(1, None).unwrap();
+    assert_eq!(a.allocate(&large).map(|_| ()), Err(AllocationError::BudgetExceeded)); // by the budget
+    a.free(first).unwrap();
+    let trace = a.destroy().unwrap().to_string();
+    let calls = trace.split_once("new\n").unwrap().1;
+    let expected = "budget 1 8388608\nbudget 3 8388608\nalloc 1 1048576 64 2 Unknown linear managed piece\n\
+        budget 3 4194304\nalloc 2 1048576 64 8 Unknown linear managed piece\n\
+        budget 1 4194304\nalloc 3 4194304 64 2 Unknown linear managed piece\nfree 2\n\
+        budget 1 5242880\nbudget 3 none\nalloc 4 4194304 64 2 Unknown linear managed piece\nfree 1\ndestroy\n";
+    assert_eq!(calls, expected);
     driver.assert_left_empty();
 }
 

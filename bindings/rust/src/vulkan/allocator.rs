@@ -136,13 +136,13 @@ pub(crate) fn next_owner() -> u64 {
 /// An allocator of a device's memory. It may go from thread to thread, and serves one call at a time (`Mutex<Allocator>`). Dropping it
 /// gives all blocks back to the driver and logs the allocations that are live still.
 pub struct Allocator {
-    machine: Machine,
+    pub(super) machine: Machine,
     owner: u64,
     requests: u64,
     device_address: bool,
     debug_settings: AllocatorDebugSettings,
     logger: Option<Logger>,
-    capture: Option<Capture>,
+    pub(super) capture: Option<Capture>,
 }
 
 impl Allocator {
@@ -195,6 +195,7 @@ impl Allocator {
         let allocation_scheme = options.scheme(desc.allocation_scheme);
         let desc = AllocationCreateDesc { requirements, allocation_scheme, ..desc.clone() };
         self.requests += 1;
+        self.note_bounds();
         let result = self.serve(&desc, preference.as_ref(), options.next);
         if let Some(capture) = &mut self.capture {
             match &result {
@@ -245,6 +246,7 @@ impl Allocator {
         desc: &AllocationCreateDesc<'_>,
     ) -> Result<Option<Allocation>> {
         let own = copied(desc.name)?;
+        self.note_bounds();
         let held = self.live(allocation)?;
         let (piece, number) = (held.piece, held.number);
         let requirements = self.device().in_whole_atoms(desc.requirements);
@@ -345,9 +347,7 @@ impl Allocator {
     /// The error: `Internal` where there is no such memory type.
     pub fn set_budget(&mut self, memory_type: usize, budget: Option<u64>) -> Result<()> {
         self.machine.set_budget(memory_type, budget)?;
-        if let Some(capture) = &mut self.capture {
-            capture.budgeted(memory_type, budget);
-        }
+        self.note_bounds();
         Ok(())
     }
 
@@ -431,6 +431,7 @@ impl Allocator {
 
     /// Drops the allocator, and returns what was asked of it, up to its end, where that is recorded.
     pub fn destroy(mut self) -> Option<Capture> {
+        self.note_bounds();
         let mut capture = self.capture.take()?;
         capture.destroyed();
         Some(capture)

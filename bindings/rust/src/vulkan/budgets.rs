@@ -66,25 +66,63 @@ impl Allocator {
     /// What a heap has, and what the driver tells of it now; `None` where there is no such heap.
     pub fn read_heap(&self, heap: usize) -> Option<Heap> {
         let it = self.device().memory_heaps().get(heap)?;
-        let types = self.device().memory_types().iter().enumerate().filter(|(_, it)| it.heap_index as usize == heap);
-        let held = types.filter_map(|(index, _)| self.type_capacity(index)).sum();
+        let held = self.held_in(heap);
         let told = self.device().read_budgets();
         let budget = told.map(|told| HeapBudget { usage: told.heap_usage[heap], budget: told.heap_budget[heap] });
         Some(Heap { size: it.size, flags: it.flags, held, budget })
     }
 
-    /// Bounds each memory type by what it holds and what its heap has left now, by the driver: once a frame, say. Memory types of one heap share
-    /// what is left: until the next call they may take it more than once.
+    /// Limits each heap to what the allocator holds there and what the heap has left now, by the driver: once a frame, say.
     ///
     /// The error: `Internal` where the device tells of no budgets ([`Device::with_memory_budget`]).
     pub fn update_budgets(&mut self) -> Result<()> {
         let told = self.device().read_budgets().ok_or(internal("The device tells of no budgets."))?;
-        for index in 0..self.device().memory_types().len() {
-            let heap = self.device().memory_types()[index].heap_index as usize;
+        for heap in 0..self.device().memory_heaps().len() {
             let left = told.heap_budget[heap].saturating_sub(told.heap_usage[heap]);
-            let held = self.type_capacity(index).unwrap_or(0);
-            self.set_budget(index, Some(held.saturating_add(left)))?;
+            self.set_heap_limit(heap, Some(self.held_in(heap).saturating_add(left)))?;
         }
         Ok(())
+    }
+
+    /// Limits the sum of the sizes of the blocks of all memory types that lie in a heap in bytes, or takes the limit away. A limit below the
+    /// present sum gives no block back. (A trace has no limits: a capture bounds each memory type of the heap by what the others leave, as it
+    /// changes, and so is refused the same.)
+    ///
+    /// The error: `Internal` where there is no such heap.
+    pub fn set_heap_limit(&mut self, heap: usize, limit: Option<u64>) -> Result<()> {
+        if !self.machine.set_heap_limit(heap, limit) {
+            return Err(internal("No such memory heap."));
+        }
+        self.note_bounds();
+        Ok(())
+    }
+
+    /// The limit of a heap in bytes; `None` where it has none, or isn't there.
+    pub fn heap_limit(&self, heap: usize) -> Option<u64> {
+        self.machine.heap_limit(heap)
+    }
+
+    /// Notes the bounds of memory types by which the next request is served, where it is captured: a heap's limit bounds each of its memory types
+    /// by what the others leave.
+    pub(super) fn note_bounds(&mut self) {
+        let Some(mut capture) = self.capture.take() else { return };
+        capture.bounded((0..self.device().memory_types().len()).map(|index| self.bound_of(index)));
+        self.capture = Some(capture);
+    }
+
+    fn bound_of(&self, index: usize) -> Option<u64> {
+        let heap = self.device().memory_types()[index].heap_index as usize;
+        let left = self.heap_limit(heap).map(|limit| {
+            let others = self.held_in(heap) - self.type_capacity(index).unwrap_or(0);
+            limit.saturating_sub(others)
+        });
+        [self.budget(index), left].into_iter().flatten().min()
+    }
+
+    /// The sum of the sizes of a heap's blocks.
+    fn held_in(&self, heap: usize) -> u64 {
+        let types = self.device().memory_types().iter().enumerate();
+        let lie_there = types.filter(|(_, it)| it.heap_index as usize == heap);
+        lie_there.filter_map(|(index, _)| self.type_capacity(index)).sum()
     }
 }

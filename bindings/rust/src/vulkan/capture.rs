@@ -152,10 +152,10 @@ impl Capture {
         self.record(format_args!("rename {number} {}", TraceName(name)));
     }
 
-    /// Notes that a budget is set, or taken away. It counts where something is allocated, and is recorded then, or at the end.
-    pub(super) fn budgeted(&mut self, memory_type: usize, budget: Option<u64>) {
+    /// Notes the budgets of the memory types. They count where something is allocated, and are recorded then, or at the end.
+    pub(super) fn bounded(&mut self, budgets: impl Iterator<Item = Option<u64>>) {
         if self.end == CaptureEnd::Whole {
-            self.budgets[memory_type].now = budget;
+            self.budgets.iter_mut().zip(budgets).for_each(|(it, now)| it.now = now);
             let written = self.write_new_budgets();
             self.go_on(written);
         }

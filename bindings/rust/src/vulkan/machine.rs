@@ -257,6 +257,26 @@ impl Machine {
         budget.exists.then_some(budget.bytes)
     }
 
+    /// Limits the sum of the sizes of the blocks that lie in a heap in bytes, or takes the limit away; whether there is such a heap.
+    pub(super) fn set_heap_limit(&mut self, heap: usize, limit: Option<u64>) -> bool {
+        let bytes = limit.unwrap_or(0);
+        // SAFETY: the handle is this machine's alone.
+        let status =
+            unsafe { raw::pilhangko_raw_allocator_set_heap_limit(self.handle.as_ptr(), heap, limit.is_some(), bytes) };
+        if status != raw::NO_SUCH_HEAP {
+            check_unrefused(status);
+        }
+        status != raw::NO_SUCH_HEAP
+    }
+
+    /// The limit of a heap, if it has one.
+    pub(super) fn heap_limit(&self, heap: usize) -> Option<u64> {
+        let mut limit = raw::Budget::default();
+        // SAFETY: the handle is this machine's alone: it isn't `Sync`.
+        check_unrefused(unsafe { raw::pilhangko_raw_allocator_heap_limit(self.handle.as_ptr(), heap, &mut limit) });
+        limit.exists.then_some(limit.bytes)
+    }
+
     /// The sum of the sizes of the live blocks in bytes.
     pub(super) fn capacity(&self) -> u64 {
         let mut bytes = 0;

@@ -37,6 +37,8 @@ pub struct Account {
     pub atom: u64,
     pub sizes: AllocationSizes,
     pub budgets: Vec<Option<u64>>,
+    /// The limits of heaps.
+    pub limits: Vec<Option<u64>>,
     /// Blocks by memory type and slot.
     pub blocks: Vec<Vec<Option<Block>>>,
 }
@@ -56,6 +58,7 @@ impl Account {
             atom,
             sizes,
             budgets: vec![None; types.len()],
+            limits: vec![None; heaps.len()],
             blocks: vec![Vec::new(); types.len()],
         }
     }
@@ -93,6 +96,18 @@ impl Account {
         self.blocks[memory_type].iter().flatten().map(|block| block.size).sum()
     }
 
+    pub fn held_in(&self, heap: usize) -> u64 {
+        (0..self.types.len()).filter(|&index| self.types[index].1 as usize == heap).map(|index| self.held(index)).sum()
+    }
+
+    /// What bounds a memory type: its budget, or what the other memory types of its heap leave of that heap's limit.
+    pub fn bound(&self, memory_type: usize) -> Option<u64> {
+        let heap = self.types[memory_type].1 as usize;
+        let others = self.held_in(heap) - self.held(memory_type);
+        let left = self.limits[heap].map(|limit| limit.saturating_sub(others));
+        [self.budgets[memory_type], left].into_iter().flatten().min()
+    }
+
     pub fn capacity(&self) -> u64 {
         (0..self.types.len()).map(|memory_type| self.held(memory_type)).sum()
     }
@@ -113,6 +128,11 @@ impl Account {
     }
 
     fn is_above_budget(&self, memory_type: usize, desc: &AllocationCreateDesc<'_>) -> bool {
+        let needed = self.block_for(memory_type, desc).0;
+        self.bound(memory_type).is_some_and(|bound| self.held(memory_type) + needed > bound)
+    }
+
+    fn is_above_own_budget(&self, memory_type: usize, desc: &AllocationCreateDesc<'_>) -> bool {
         let needed = self.block_for(memory_type, desc).0;
         self.budgets[memory_type].is_some_and(|budget| self.held(memory_type) + needed > budget)
     }
@@ -220,9 +240,9 @@ impl Account {
             return assert_eq!(*error, AllocationError::NoCompatibleMemoryTypeFound);
         };
         match error {
-            // a block that is needed isn't asked for, where its budget allows it
+            // a block that is needed isn't asked for, where its memory type's own budget allows it
             AllocationError::OutOfMemory if options.never_allocate => {
-                assert!(self.is_above_heap(last, needs.size) || !self.is_above_budget(last, desc));
+                assert!(self.is_above_heap(last, needs.size) || !self.is_above_own_budget(last, desc));
             }
             AllocationError::OutOfMemory | AllocationError::BudgetExceeded => {
                 assert!(self.allows(last, desc, met, error), "{desc:?} {options:?} {met:?} {error:?}");

@@ -177,9 +177,14 @@ impl Script {
         }
     }
 
+    /// The bounds of the memory types, as the account has them now.
+    fn bounds(&self) -> Vec<Option<u64>> {
+        (0..TYPES.len()).map(|index| self.account.bound(index)).collect()
+    }
+
     /// Before an allocation and at the end a capture has those budgets that are others than before.
     pub fn told_budgets(&mut self) {
-        let budgets = self.account.budgets.clone();
+        let budgets = self.bounds();
         let changed = budgets.iter().zip(&self.captured_budgets).filter(|(now, before)| now != before).count();
         (0..changed).for_each(|_| self.told("ok".to_owned()));
         self.captured_budgets = budgets;
@@ -432,10 +437,24 @@ impl Script {
         assert_eq!(self.allocator.budget(memory_type), expected);
     }
 
+    pub fn set_heap_limit(&mut self) {
+        let heap = self.random.below(HEAPS.len() as u64 + 1) as usize;
+        let limit = (!self.random.one_in(2)).then(|| self.random.below(200 * MB));
+        let result = self.allocator.set_heap_limit(heap, limit);
+        if heap == HEAPS.len() {
+            assert!(matches!(result, Err(AllocationError::Internal(_))));
+        } else {
+            result.expect("the heap is there");
+            self.account.limits[heap] = limit;
+        }
+        assert_eq!(self.allocator.heap_limit(heap), self.account.limits.get(heap).copied().flatten());
+    }
+
     /// A random call. Phases in which more is allocated than freed alternate with the reverse.
     pub fn step(&mut self, number: u64) {
         let allocates = if number / 3000 % 2 == 0 { 55 } else { 40 };
         match self.random.below(100) {
+            0 if self.random.one_in(3) => self.set_heap_limit(),
             0 => self.set_budget(),
             1..=3 => self.rename(),
             4..=8 => self.propose_move(),
