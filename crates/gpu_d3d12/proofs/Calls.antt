@@ -196,7 +196,7 @@ module _ {D : Type 0} (g : Ghosts D) where
   placed_replies t d (Err e) (Ok o) h = absurd h
   placed_replies t d (Err e) (Err r) h = h
 
-  pub move_step : (a : Allocation) (d : AllocationCreateDesc) (r : Request) → r ≡ request_of d → (old new : State D) (result : Result (Option Allocation) AllocationError) → is_again a d ≡ true
+  pub move_step : (a : Allocation) (d : AllocationCreateDesc) (r : Request) → r ≡ request_of d → (old new : State D) (result : Result (Option Allocation) AllocationError) → is_again a.size d ≡ true
       → ProposesNamed is_same_heap a r (pool_of old) result (pool_of new) → (pool_of new).source ≡ (pool_of old).source → new.committed ≡ old.committed → IsMoveStep g a d result old new
   move_step a d r asks old new result again named source committed =
       let t = a.memory_type_index in
@@ -219,7 +219,7 @@ module _ {D : Type 0} (g : Ghosts D) where
       }
 
   -- what isn't the request again is refused
-  pub refuse_step : (a : Allocation) (d : AllocationCreateDesc) (s : State D) (e : AllocationError) → refusal_of e ≡ invalid_allocation_create_desc → is_again a d ≡ false → IsMoveStep g a d (Err e) s s
+  pub refuse_step : (a : Allocation) (d : AllocationCreateDesc) (s : State D) (e : AllocationError) → refusal_of e ≡ invalid_allocation_create_desc → is_again a.size d ≡ false → IsMoveStep g a d (Err e) s s
   refuse_step a d s e is other =
       let reply : replies.Reply ID3D12Heap = replies.Error invalid_allocation_create_desc in
       let basis = basis_of g s in

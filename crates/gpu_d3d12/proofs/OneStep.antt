@@ -338,7 +338,7 @@ module _ (basis : Basis) where
   once (Free w) met x y old new next sound a b = called_once (calls.Free w.memory_type_index (piece_of w)) met x y old new next sound a b
   once (Rename w name) met x y old new next sound a b = called_once (calls.Rename w.memory_type_index (piece_of w) name) met x y old new next sound a b
   once (ProposeMove w d) met x y old new next sound a b =
-      of_pool_once (Proposes w d (is_again w d)) met x y old new next (λ r s p q. propose_once w d (is_again w d) met.pool r s old.pool new.pool next.pool sound p q) a b
+      of_pool_once (Proposes w d (is_again w.size d)) met x y old new next (λ r s p q. propose_once w d (is_again w.size d) met.pool r s old.pool new.pool next.pool sound p q) a b
   once Capacity met x y old new next sound a b = called_once calls.Capacity met x y old new next sound a b
   once Report met x y old new next sound a b = called_once calls.Report met x y old new next sound a b
   once Leaks met x y old new next sound a b = called_once calls.LeakTexts met x y old new next sound a b

@@ -100,9 +100,9 @@ abbrev pub allocated_reply : Result (ℕ × Piece ID3D12Heap) Refusal → replie
 allocated_reply (Ok p) = replies.Allocated p.0 p.1
 allocated_reply (Err refusal) = replies.Error refusal
 
--- the request again: valid, and of the allocation's size
-abbrev pub is_again : Allocation → AllocationCreateDesc → Bool
-is_again a d = is_valid d && (d.size == a.size)
+-- the request again that a piece of this size was made for
+abbrev pub is_again : (size : ℕ) → AllocationCreateDesc → Bool
+is_again size d = is_valid d && (d.size == size)
 
 -- asks, gives_back, makes and releases are the source's: a question for a heap, a heap that goes back, a question for a resource, one that is released
 module _ {S : Type 0} (asks : S → ℕ → ℕ → Unit {0} → Result ID3D12Heap Refusal → S → Type 0) (gives_back : S → ID3D12Heap → S → Type 0)
@@ -207,7 +207,7 @@ module _ {S : Type 0} (asks : S → ℕ → ℕ → Unit {0} → Result ID3D12He
   StepOver (Allocate d) met reply old new = OfPool (AllocatesBy d (is_valid d)) met reply old new
   StepOver (Free a) met reply old new = OfPool (IsPoolCall (calls.Free a.memory_type_index (piece_of a))) met reply old new
   StepOver (Rename a name) met reply old new = OfPool (IsPoolCall (calls.Rename a.memory_type_index (piece_of a) name)) met reply old new
-  StepOver (ProposeMove a d) met reply old new = OfPool (ProposesBy a d (is_again a d)) met reply old new
+  StepOver (ProposeMove a d) met reply old new = OfPool (ProposesBy a d (is_again a.size d)) met reply old new
   StepOver Capacity met reply old new = OfPool (IsPoolCall calls.Capacity) met reply old new
   StepOver Report met reply old new = OfPool (IsPoolCall calls.Report) met reply old new
   StepOver Leaks met reply old new = OfPool (IsPoolCall calls.LeakTexts) met reply old new

@@ -247,7 +247,7 @@ impl<D: D3D12Device> Allocator<D> {
         ensures others { self.new ≡ record self.old { slots = self.new.slots } }
         ensures keeps { StayLive is_same_heap self.old.slots self.new.slots }
     {
-        if !is_again(allocation, desc) {
+        if !is_again(allocation.size(), desc) {
             return Err(AllocationError::InvalidAllocationCreateDesc);
         }
         self.pool

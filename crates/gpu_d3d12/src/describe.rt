@@ -78,9 +78,9 @@ pub fn request_of<'a>(desc: &AllocationCreateDesc<'a>) -> Request<'a>
     }
 }
 
-/// Whether the description is an allocation's request again: valid, and of its size.
-pub fn is_again(allocation: &Allocation, desc: &AllocationCreateDesc) -> bool
-    ensures { result ≡ is_again allocation.now desc.now }
+/// Whether the description is the request again that a piece of this size was made for: valid, and of that size.
+pub fn is_again(size: u64, desc: &AllocationCreateDesc) -> bool
+    ensures { result ≡ is_again size desc.now }
 {
-    desc.size != 0 && desc.alignment.is_power_of_two() && desc.size == allocation.size()
+    desc.size != 0 && desc.alignment.is_power_of_two() && desc.size == size
 }

@@ -5,13 +5,14 @@ use Rattle.gpu_core.specs.declared.piece.Piece.{Piece}
 use Rattle.gpu_device.specs.declared.metal.types.MTLHeap.{MTLHeap}
 use Rattle.gpu_metal.specs.Blocks.{is_same_heap}
 use Rattle.gpu_metal.specs.Describe.{request_of}
+use Rattle.gpu_metal.specs.Step.{is_again}
 use Rattle.gpu_metal.specs.declared.describe.AllocationCreateDesc.{AllocationCreateDesc}
 use Rattle.gpu_pool.specs.Move.{ProposesIdle}
 use Rattle.gpu_pool.specs.declared.requests.Awaited.{Awaited}
-use Rattle.gpu_machine.specs.MetalMove.{is_of_piece, ProposesBy, ProposesIn, Proposes}
+use Rattle.gpu_machine.specs.MetalMove.{ProposesBy, ProposesIn, Proposes}
 use Rattle.gpu_machine.specs.MetalState.{State}
 
-pub proposed : (t : ℕ) (p : Piece MTLHeap) (d : AllocationCreateDesc) (old new : State) → old.requests.awaited ≡ None → is_of_piece p d ≡ true → (result : Result (Option (Piece MTLHeap)) AllocationError)
+pub proposed : (t : ℕ) (p : Piece MTLHeap) (d : AllocationCreateDesc) (old new : State) → old.requests.awaited ≡ None → is_again p.size d ≡ true → (result : Result (Option (Piece MTLHeap)) AllocationError)
     → ProposesIdle is_same_heap t p (request_of d) old.requests result new.requests → new.has_set ≡ old.has_set → Proposes t p d old result new
 proposed t p d old new shut valid result proposes set =
     subst (λ (o : Option Awaited). ProposesIn t p d o old result new) (sym shut) (subst (λ (v : Bool). ProposesBy t p d v old result new) (sym valid) (proposes, set))

@@ -1,35 +1,31 @@
 -- What a second place for a piece of Metal's machine is, and what looking for it leaves.
-use Rattle.std.specs.Prelude.{◌≡◌, ◌==◌, ◌&&◌, Bool, true, false, ℕ, Option, Some, None, Result}
+use Rattle.std.specs.Prelude.{◌≡◌, Bool, true, false, ℕ, Option, Some, None, Result}
 use Rattle.gpu_values.specs.Refusal.{Refusal, refusal_in, invalid_allocation_create_desc}
 use Rattle.gpu_values.specs.declared.error.AllocationError.{AllocationError}
 use Rattle.gpu_core.specs.declared.piece.Piece.{Piece}
 use Rattle.gpu_device.specs.declared.metal.types.MTLHeap.{MTLHeap}
-use Rattle.gpu_metal.specs.Allocate.{is_valid}
 use Rattle.gpu_metal.specs.Blocks.{is_same_heap}
 use Rattle.gpu_metal.specs.Describe.{request_of}
+use Rattle.gpu_metal.specs.Step.{is_again}
 use Rattle.gpu_metal.specs.declared.describe.AllocationCreateDesc.{AllocationCreateDesc}
 use Rattle.gpu_pool.specs.Move.{ProposesIdle}
 use Rattle.gpu_pool.specs.RequestState.{answer_awaited}
 use Rattle.gpu_pool.specs.declared.requests.Awaited.{Awaited}
 use Rattle.gpu_machine.specs.MetalState.{State}
 
--- a valid request of the piece's size
-abbrev pub is_of_piece : Piece MTLHeap → AllocationCreateDesc → Bool
-is_of_piece p d = is_valid d && (d.size == p.size)
-
 -- the call is refused for this cause, and nothing changes
 abbrev pub IsRefused : Refusal → State → Result (Option (Piece MTLHeap)) AllocationError → State → Type 0
 IsRefused refusal old result new = (refusal_in result ≡ Some refusal) × (new ≡ old)
 
 module _ (t : ℕ) (p : Piece MTLHeap) (d : AllocationCreateDesc) where
-  abbrev pub ProposesBy : (valid : Bool) → State → Result (Option (Piece MTLHeap)) AllocationError → State → Type 0
+  abbrev pub ProposesBy : (again : Bool) → State → Result (Option (Piece MTLHeap)) AllocationError → State → Type 0
   ProposesBy false old result new = IsRefused invalid_allocation_create_desc old result new
   ProposesBy true old result new = ProposesIdle is_same_heap t p (request_of d) old.requests result new.requests × (new.has_set ≡ old.has_set)
 
   abbrev pub ProposesIn : Option Awaited → State → Result (Option (Piece MTLHeap)) AllocationError → State → Type 0
   ProposesIn (Some _) old result new = IsRefused answer_awaited old result new
-  ProposesIn None old result new = ProposesBy (is_of_piece p d) old result new
+  ProposesIn None old result new = ProposesBy (is_again p.size d) old result new
 
-  -- a second place is looked for where no question is open, for a valid request of the piece's size
+  -- a second place is looked for where no question is open, for the piece's request again
   abbrev pub Proposes : State → Result (Option (Piece MTLHeap)) AllocationError → State → Type 0
   Proposes old result new = ProposesIn old.requests.awaited old result new

@@ -70,7 +70,7 @@ pub step_once : (call : Call) (met : Environment MTLHeap) (x y : Reply MTLHeap) 
     → (x ≡ y) × (new ≡ next)
 step_once (Allocate d) met x y old new next sound a b = allocate_once d (is_valid d) met x y old new next sound a b
 step_once (Free w) met x y old new next sound a b = pool_once (pools.Free w.memory_type_index (piece_of w)) met x y old new next sound a b
-step_once (ProposeMove w d) met x y old new next sound a b = move_once w d (is_again w d) met x y old new next sound a b
+step_once (ProposeMove w d) met x y old new next sound a b = move_once w d (is_again w.size d) met x y old new next sound a b
 step_once Commit met x y old new next sound a b = (a.1.0 ∙ sym b.1.0, a.1.1 ∙ sym b.1.1)
 step_once (SetBudget t budget) met x y old new next sound a b = pool_once (pools.SetBudget t budget) met x y old new next sound a b
 step_once (Budget t) met x y old new next sound a b = pool_once (pools.Budget t) met x y old new next sound a b
@@ -98,7 +98,7 @@ pub step_plain : (call : Call) (met : Environment MTLHeap) (x : Reply MTLHeap) (
     → Step call met x (without_budgets old) (without_budgets new)
 step_plain (Allocate d) met x old new none a = allocate_plain d (is_valid d) met x old new none a
 step_plain (Free w) met x old new none a = pool_plain (pools.Free w.memory_type_index (piece_of w)) met x old new tt a
-step_plain (ProposeMove w d) met x old new none a = move_plain w d (is_again w d) met x old new a
+step_plain (ProposeMove w d) met x old new none a = move_plain w d (is_again w.size d) met x old new a
 step_plain Commit met x old new none a = (a.0, (a.1.0, ap without_budgets a.1.1))
 step_plain (SetBudget t budget) met x old new none a = absurd none
 step_plain (Budget t) met x old new none a = absurd none

@@ -66,9 +66,9 @@ abbrev pub AllocateStep : AllocationCreateDesc → (valid : Bool) → Environmen
 AllocateStep d false met reply old new = (met ≡ NothingMet) × (reply ≡ Error invalid_allocation_create_desc) × (new ≡ old)
 AllocateStep d true met reply old new = (t : ℕ) × IsFirstServing d.location t × PoolStep old (pools.Allocate (request_in t d)) met reply new
 
--- the request again: valid, and of the allocation's size
-abbrev pub is_again : Allocation → AllocationCreateDesc → Bool
-is_again a d = is_valid d && (d.size == a.size)
+-- the request again that a piece of this size was made for
+abbrev pub is_again : (size : ℕ) → AllocationCreateDesc → Bool
+is_again size d = is_valid d && (d.size == size)
 
 -- a second place for the request again
 abbrev pub MoveStep : Allocation → AllocationCreateDesc → (again : Bool) → Environment MTLHeap → Reply MTLHeap → Model → Model → Type 0
@@ -87,7 +87,7 @@ CommitStep reply old new = (reply ≡ Done) × (new ≡ record old { source = wi
 abbrev pub Step : Call → Environment MTLHeap → Reply MTLHeap → Model → Model → Type 0
 Step (Allocate d) met reply old new = AllocateStep d (is_valid d) met reply old new
 Step (Free a) met reply old new = PoolStep old (pools.Free a.memory_type_index (piece_of a)) met reply new
-Step (ProposeMove a d) met reply old new = MoveStep a d (is_again a d) met reply old new
+Step (ProposeMove a d) met reply old new = MoveStep a d (is_again a.size d) met reply old new
 Step Commit met reply old new = (met ≡ NothingMet) × CommitStep reply old new
 Step (SetBudget t budget) met reply old new = PoolStep old (pools.SetBudget t budget) met reply new
 Step (Budget t) met reply old new = PoolStep old (pools.Budget t) met reply new

@@ -12,9 +12,8 @@ mod setup;
 mod source;
 
 pub use allocator::{Allocator, Heaps};
-use describe::is_again;
 pub use describe::{
-    AllocationCreateDesc, AllocatorCreateDesc, CommittedAllocationStatistics, request_of,
+    AllocationCreateDesc, AllocatorCreateDesc, CommittedAllocationStatistics, is_again, request_of,
 };
 pub use heap::heap_refusal;
 use heap::{create_block_heap, release_block_heap};

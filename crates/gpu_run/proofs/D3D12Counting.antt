@@ -160,7 +160,7 @@ module _ (basis : Basis) where
 
   pub move_leaves : (a : Allocation) (d : AllocationCreateDesc) (met : model.Environment) (reply : module_replies.Reply) (old new : Model)
       → model.Step basis (model.ProposeMove a d) met reply old new → Leaves met old new
-  move_leaves a d met reply old new h = leaves met old new h.0 (moves_sees a d (is_again a d) met.pool h.1 old.pool new.pool h.3) h.4
+  move_leaves a d met reply old new h = leaves met old new h.0 (moves_sees a d (is_again a.size d) met.pool h.1 old.pool new.pool h.3) h.4
 
   pub looked_leaves : (t : ℕ) (met : model.Environment) (reply : module_replies.Reply) (old new : Model) → model.Step basis (model.Statistics t) met reply old new → Leaves met old new
   looked_leaves t met reply old new h = record {

@@ -106,7 +106,7 @@ move_counts a d true met reply old new h = proposed_counts a.memory_type_index (
 pub step_counts : (call : Call) (met : Environment MTLHeap) (reply : Reply MTLHeap) (old new : Model) → Step call met reply old new → refusals new ≡ refused_after met (refusals old)
 step_counts (Allocate d) met reply old new h = allocate_counts d (is_valid d) met reply old new h
 step_counts (Free a) met reply old new h = unmet met old new h.0 (free_counts _ _ old h.1 new h.3)
-step_counts (ProposeMove a d) met reply old new h = move_counts a d (is_again a d) met reply old new h
+step_counts (ProposeMove a d) met reply old new h = move_counts a d (is_again a.size d) met reply old new h
 step_counts Commit met reply old new h = unmet met old new h.0 (ap refusals h.1.1 ∙ commit_counts old.source.set old.source.history)
 step_counts (SetBudget t budget) met reply old new h = unmet met old new h.0 (ap refusals h.3.state)
 step_counts (Budget t) met reply old new h = unmet met old new h.0 (stays old new h.2)

@@ -160,11 +160,11 @@ module _ (setup : Setup) (a : Allocation) (d : AllocationCreateDesc) where
   pub placed : (u : ℕ) (o : CallEnvironment) (q : Piece DeviceMemory) (old new : ModelState) → Step setup (ProposeMove a d) o (answers.SecondPlace u (Some q)) old new
       → Gained (is_mapped setup.properties u) (id_in u q) q.size old.byte_view new.byte_view
   placed u o q old new h =
-      taken_out (is_mapped setup.properties u) (id_in u q) q.offset q.size old.byte_view old.byte_view new.byte_view (λ r. refl) (placed_by (is_again a d) u o (Some q) old new h)
+      taken_out (is_mapped setup.properties u) (id_in u q) q.offset q.size old.byte_view old.byte_view new.byte_view (λ r. refl) (placed_by (is_again a.size d) u o (Some q) old new h)
 
   -- where there is none, or none was looked for, no byte changes
   pub not_placed : (u : ℕ) (o : CallEnvironment) (old new : ModelState) → Step setup (ProposeMove a d) o (answers.SecondPlace u None) old new → new.byte_view ≡ old.byte_view
-  not_placed u o old new h = placed_by (is_again a d) u o None old new h
+  not_placed u o old new h = placed_by (is_again a.size d) u o None old new h
 
   refused_by : (again : Bool) (o : CallEnvironment) (r : Refusal) (old new : ModelState) → MoveStep setup a d again o (answers.Error r) old new → new.byte_view ≡ old.byte_view
   refused_by false o r old new h = ap (λ x. x.byte_view) h.same
@@ -172,7 +172,7 @@ module _ (setup : Setup) (a : Allocation) (d : AllocationCreateDesc) where
       subst (λ z. BytesPlaced (is_mapped setup.properties a.memory_type_index) a.memory_type_index z old.byte_view new.byte_view) (failed_is a.memory_type_index h.1 r h.2) h.3.bytes
 
   pub move_refused : (o : CallEnvironment) (r : Refusal) (old new : ModelState) → Step setup (ProposeMove a d) o (answers.Error r) old new → new.byte_view ≡ old.byte_view
-  move_refused o r old new h = refused_by (is_again a d) o r old new h
+  move_refused o r old new h = refused_by (is_again a.size d) o r old new h
 
 -- ---- places
 

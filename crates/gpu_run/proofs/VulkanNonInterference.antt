@@ -1,6 +1,6 @@
 -- Two runs that differ in the bytes of others alone stay alike.
 use Rattle.std.proofs.Common.{◌≡◌, ◌∙◌, ◌⊎◌, ℕ, ◌+◌, ◌<◌, ◌≤◌, List, [], ◌∷◌, length, take, drop, Option, Some, None, Bool, true, false, refl, sym, ap, subst, inl, inr, arith, ⊎_elim}
-use Rattle.std.specs.Prelude.{nat_le, slice_get, if◌then◌else◌, ◌==◌, ◌&&◌, not}
+use Rattle.std.specs.Prelude.{nat_le, slice_get, if◌then◌else◌, ◌==◌}
 use Rattle.std.specs.List.{AllZip}
 use Rattle.std.specs.Option.{option_map}
 use Rattle.std.proofs.lemmas.Bool.Decides.{nat_tests}
@@ -8,8 +8,6 @@ use Rattle.gpu_values.specs.Refusal.{Refusal, host_out_of_memory}
 use Rattle.gpu_core.specs.declared.piece.Piece.{Piece}
 use Rattle.gpu_device.specs.declared.vulkan.types.DeviceMemory.{DeviceMemory}
 use Rattle.gpu_vulkan.specs.EqualButBytes.{EqualButBytesDescription, EqualButBytesCall, EqualButBytesReply}
-use Rattle.gpu_vulkan.specs.Allocate.{is_valid}
-use Rattle.gpu_vulkan.specs.Describe.{requests_dedicated}
 use Rattle.gpu_vulkan.specs.Types.{is_mapped}
 use Rattle.gpu_vulkan.specs.Blocks.{Slots}
 use Rattle.gpu_vulkan.specs.ByteView.{AllocationId, Writes}
@@ -71,8 +69,8 @@ moved_as setup a b d true o model_reply s new same h = (
 move_as : (setup : Setup) (a b : Allocation) (d : AllocationCreateDesc) (o : CallEnvironment) (model_reply : answers.Reply) (s new : ModelState) → handle a ≡ handle b
     → Step setup (model.ProposeMove b d) o model_reply s new → Step setup (model.ProposeMove a d) o model_reply s new
 move_as setup a b d o model_reply s new same h =
-    let again : is_again b d ≡ is_again a d = ap (λ z. is_valid d && ((d.requirements.size == z.size) && not (requests_dedicated d.allocation_scheme))) (sym same) in
-    moved_as setup a b d (is_again a d) o model_reply s new same (subst (λ z. MoveStep setup b d z o model_reply s new) again h)
+    let again : is_again b.size d ≡ is_again a.size d = ap (λ z. is_again z.size d) (sym same) in
+    moved_as setup a b d (is_again a.size d) o model_reply s new same (subst (λ z. MoveStep setup b d z o model_reply s new) again h)
 
 named_handle : (a b : Allocation) (name : List ℕ) → IsNamed a name b → handle b ≡ handle a
 named_handle a b name h = ap handle h.others

@@ -236,8 +236,8 @@ module _ (setup : Setup) (d e : AllocationCreateDesc) (same : EqualButBytesDescr
 
 -- ---- a second place
 
-again_alike : (w : Allocation) (d e : AllocationCreateDesc) → EqualButBytesDescription d e → is_again w d ≡ is_again w e
-again_alike w d e same = λ i. is_again w (record d { requirements = same.requirements i; allocation_scheme = same.scheme i })
+again_alike : (size : ℕ) (d e : AllocationCreateDesc) → EqualButBytesDescription d e → is_again size d ≡ is_again size e
+again_alike size d e same = λ i. is_again size (record d { requirements = same.requirements i; allocation_scheme = same.scheme i })
 
 same_proposes : (t : ℕ) (q : Option (Piece DeviceMemory)) (d e : AllocationCreateDesc) → EqualButBytesDescription d e → (host : Bool) (answer : Place) (old new : pools.State (Unit {0}) DeviceMemory)
     → Proposes t q e host old answer new → Proposes t q d host old answer new
@@ -328,8 +328,8 @@ module _ (setup : Setup) (o p : CallEnvironment) (x y : Reply) (old new twin nex
 
   proposed : (w v : Allocation) (d e : AllocationCreateDesc) → w ≡ v → EqualButBytesDescription d e → Step setup (ProposeMove w d) o x old new → Step setup (ProposeMove v e) p y twin next → Alike
   proposed w v d e one same a b =
-      moved w d e same (is_again w d) a
-      (subst (λ z. MoveStep setup w e z p y twin next) (sym (again_alike w d e same)) (subst (λ u. MoveStep setup u e (is_again u e) p y twin next) (sym one) b))
+      moved w d e same (is_again w.size d) a
+      (subst (λ z. MoveStep setup w e z p y twin next) (sym (again_alike w.size d e same)) (subst (λ u. MoveStep setup u e (is_again u.size e) p y twin next) (sym one) b))
 
   -- the same call
   same_call : (call : Call) → Step setup call o x old new → Step setup call p y twin next → Alike

@@ -63,7 +63,7 @@ pub keeps_budgets : (setup : Setup) (call : Call) (o : CallEnvironment) (x : Rep
 keeps_budgets setup (Allocate d) o x old new h a = allocated setup d (is_valid d) o x old new a
 keeps_budgets setup (Free f) o x old new h a = freed setup f.memory_type_index (piece_of f) a.1 old new a.3
 keeps_budgets setup (Rename f name) o x old new h a = renamed setup f.memory_type_index (piece_of f) name o.first.host a.1 old new a.3
-keeps_budgets setup (ProposeMove w d) o x old new h a = moved setup w d (is_again w d) o x old new a
+keeps_budgets setup (ProposeMove w d) o x old new h a = moved setup w d (is_again w.size d) o x old new a
 keeps_budgets setup (Write w ws) o x old new h a = a.2.budgets
 keeps_budgets setup (Read r) o x old new h a = ap budgets_of a.4
 keeps_budgets setup Capacity o x old new h a = ap budgets_of a.2

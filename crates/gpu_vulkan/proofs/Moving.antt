@@ -51,21 +51,21 @@ above_zero zero e = cc
 above_zero (suc n) e = omega arith
 
 -- what the request again is
-pub record IsAgain (a : Allocation) (d : AllocationCreateDesc) : Type 0 where
+pub record IsAgain (size : ℕ) (d : AllocationCreateDesc) : Type 0 where
   pub sized : 0 < d.requirements.size
   pub aligned : IsTrue (is_power_of_two d.requirements.alignment)
-  pub whole : d.requirements.size ≡ a.size
+  pub whole : d.requirements.size ≡ size
   pub shared : requests_dedicated d.allocation_scheme ≡ false
 
-pub asks_again : (a : Allocation) (d : AllocationCreateDesc) → is_again a d ≡ true → IsAgain a d
-asks_again a d is =
-    let k = both_true (is_valid d) ((d.requirements.size == a.size) && not (requests_dedicated d.allocation_scheme)) is in
+pub asks_again : (size : ℕ) (d : AllocationCreateDesc) → is_again size d ≡ true → IsAgain size d
+asks_again size d is =
+    let k = both_true (is_valid d) ((d.requirements.size == size) && not (requests_dedicated d.allocation_scheme)) is in
     let v = both_true (not (d.requirements.size == 0)) (is_power_of_two d.requirements.alignment) k.0 in
-    let s = both_true (d.requirements.size == a.size) (not (requests_dedicated d.allocation_scheme)) k.1 in
+    let s = both_true (d.requirements.size == size) (not (requests_dedicated d.allocation_scheme)) k.1 in
     record {
       sized = above_zero d.requirements.size v.0;
       aligned = v.1;
-      whole = eqb-true d.requirements.size a.size s.0;
+      whole = eqb-true d.requirements.size size s.0;
       shared = not_true (requests_dedicated d.allocation_scheme) s.1;
     }
 
@@ -164,7 +164,7 @@ module _ {D : Type 0} (from : Allocation) (d : AllocationCreateDesc) (old new : 
     bytes (Some p) host answer k = bytes_by p (host_met host) answer k
 
     -- what the pool proposes is a step of the model
-    pub move_step : (result : Result (Option Allocation) AllocationError) → is_again from d ≡ true → IsProposed from d old result new → IsMoveStep g from d result (state_of old) (state_of new)
+    pub move_step : (result : Result (Option Allocation) AllocationError) → is_again from.size d ≡ true → IsProposed from d old result new → IsMoveStep g from d result (state_of old) (state_of new)
     move_step result again k =
         let environment : CallEnvironment = record { first = record { host = k.host; asked = None }; second = nothing_met } in
         let here : MoveStep (setup_of old) from d true environment (placed_with t k.answer) (model_of g (state_of old)) (model_of g (state_of new)) = (
@@ -189,7 +189,7 @@ module _ {D : Type 0} (from : Allocation) (d : AllocationCreateDesc) (old new : 
         }
 
 -- what isn't the request again is refused
-pub refuse_step : {D : Type 0} (g : Ghosts D) (from : Allocation) (d : AllocationCreateDesc) (s : State D) (e : AllocationError) → refusal_of e ≡ invalid_allocation_create_desc → is_again from d ≡ false
+pub refuse_step : {D : Type 0} (g : Ghosts D) (from : Allocation) (d : AllocationCreateDesc) (s : State D) (e : AllocationError) → refusal_of e ≡ invalid_allocation_create_desc → is_again from.size d ≡ false
     → IsMoveStep g from d (Err e) s s
 refuse_step g from d s e is other =
     let environment : CallEnvironment = record { first = nothing_met; second = nothing_met } in

@@ -395,7 +395,7 @@ step_once setup (Rename f name) o x y old new next sound a b =
     let once = rename_alike setup old new old next sound (refl, refl) t p name host a.1 b.1 a.3 b.3 in
     let rest = kept_both old new next (rename_rest setup t p name host a.1 old new a.3) (rename_rest setup t p name host b.1 old next b.3) in
     (a.2 ∙ ap done_with once.0 ∙ sym b.2, states_alike new next once.1.0 once.1.1 rest.byte_view rest.history)
-step_once setup (ProposeMove w d) o x y old new next sound a b = move_once setup w d (is_again w d) o x y old new next sound a b
+step_once setup (ProposeMove w d) o x y old new next sound a b = move_once setup w d (is_again w.size d) o x y old new next sound a b
 step_once setup (Write w ws) o x y old new next sound a b =
     let p = a.2 in
     let q = b.2 in (

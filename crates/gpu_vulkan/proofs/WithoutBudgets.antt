@@ -126,7 +126,7 @@ pub step_plain : (setup : Setup) (call : Call) (o : CallEnvironment) (x : Reply)
 step_plain setup (Allocate d) o x old new none a = allocate_plain setup d (is_valid d) o x old new none a
 step_plain setup (Free f) o x old new none a = (a.0, a.1, a.2, free_plain setup f.memory_type_index (piece_of f) a.1 old new a.3)
 step_plain setup (Rename f name) o x old new none a = (a.0, a.1, a.2, rename_plain setup f.memory_type_index (piece_of f) name o.first.host a.1 old new a.3)
-step_plain setup (ProposeMove w d) o x old new none a = move_plain setup w d (is_again w d) o x old new a
+step_plain setup (ProposeMove w d) o x old new none a = move_plain setup w d (is_again w.size d) o x old new a
 step_plain setup (Write w ws) o x old new none a = (a.0, a.1, record { live = a.2.live; slots = a.2.slots; budgets = refl; history = a.2.history; writes = a.2.writes })
 step_plain setup (Read r) o x old new none a = (a.0, a.1, a.2, read_plain setup r a.1 old a.3, ap without_budgets a.4)
 step_plain setup Capacity o x old new none a = (a.0, a.1, ap without_budgets a.2)

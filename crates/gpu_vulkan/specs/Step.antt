@@ -200,9 +200,9 @@ RenameStep setup t (Some p) name host answer old new =
 abbrev pub Place : Type 0
 Place = Result (Option (Piece DeviceMemory)) Refusal
 
--- the request again: valid, of the allocation's size, and for a block that it may share
-abbrev pub is_again : Allocation → AllocationCreateDesc → Bool
-is_again a d = is_valid d && ((d.requirements.size == a.size) && not (requests_dedicated d.allocation_scheme))
+-- the request again that a piece of this size was made for: valid, and for a block that it may share
+abbrev pub is_again : (size : ℕ) → AllocationCreateDesc → Bool
+is_again size d = is_valid d && ((d.requirements.size == size) && not (requests_dedicated d.allocation_scheme))
 
 -- a second place for a piece of the t-th memory type, as a pool proposes one; a null allocation has none
 abbrev pub Proposes : {S : Type 0} → (t : ℕ) → Option (Piece DeviceMemory) → AllocationCreateDesc → (host : Bool) → pools.State S DeviceMemory → Place → pools.State S DeviceMemory → Type 0
@@ -252,7 +252,7 @@ Step setup (Allocate d) o reply old new = AllocateStep setup d (is_valid d) o re
 Step setup (Free a) o reply old new = MeetsNothing o × (answer : Result (Unit {0}) Refusal) × (reply ≡ done_with answer) × FreeStep setup a.memory_type_index (piece_of a) answer old new
 Step setup (Rename a name) o reply old new =
     AsksNothing o × (answer : Result (Unit {0}) Refusal) × (reply ≡ done_with answer) × RenameStep setup a.memory_type_index (piece_of a) name o.first.host answer old new
-Step setup (ProposeMove a d) o reply old new = MoveStep setup a d (is_again a d) o reply old new
+Step setup (ProposeMove a d) o reply old new = MoveStep setup a d (is_again a.size d) o reply old new
 Step setup (Write a bytes) o reply old new = MeetsNothing o × (reply ≡ Done) × WriteStep setup a bytes old new
 Step setup (Read a) o reply old new = MeetsNothing o × (bytes : Option (List ℕ)) × (reply ≡ Bytes bytes) × IsRead setup a old bytes × (new ≡ old)
 Step setup Capacity o reply old new = MeetsNothing o × (reply ≡ replies.Capacity (total_capacity old.slots)) × (new ≡ old)

@@ -202,7 +202,7 @@ impl<D: VulkanDevice> Allocator<D> {
         ensures reads { (b : Allocation) → IsLive self.old.slots b
             → bytes_at (D.held self.new.device) b ≡ bytes_at (D.held self.old.device) b }
     {
-        if is_again(allocation, desc) {
+        if is_again(allocation.size, desc) {
             blocks_are_held(&self.pool);
             let result = second_place(self.alloc, &mut self.pool, allocation, desc);
             blocks_are_held(&self.pool);

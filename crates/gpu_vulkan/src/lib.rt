@@ -23,6 +23,7 @@ pub use block::refusal_of_memory;
 pub use choice::best_type;
 use choice::{first_type, required_flags};
 pub use describe::{AllocationCreateDesc, AllocatorCreateDesc, request_of, requests_dedicated};
+pub use moves::is_again;
 pub use setup::{Settings, Setup, told_parts};
 use setup::{fault_of, is_mapped, parts_of};
 pub use slab::MappedAllocationSlab;

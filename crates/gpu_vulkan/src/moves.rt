@@ -13,15 +13,16 @@ use gpu_pool::Pool;
 use gpu_values::{AllocationError, Result};
 use std::alloc::{AllocError, Global};
 
-/// Whether the description is an allocation's request again: valid, of its size, and for a block that it may share.
-pub fn is_again(allocation: &Allocation, desc: &AllocationCreateDesc) -> bool
-    ensures { result ≡ is_again allocation.now desc.now }
+/// Whether the description is the request again that a piece of this size was made for: valid, of that size, and for a block that it
+/// may share.
+pub fn is_again(size: u64, desc: &AllocationCreateDesc) -> bool
+    ensures { result ≡ is_again size desc.now }
 {
-    let size = desc.requirements.size;
-    if size == 0 || !desc.requirements.alignment.is_power_of_two() {
+    let wanted = desc.requirements.size;
+    if wanted == 0 || !desc.requirements.alignment.is_power_of_two() {
         return false;
     }
-    size == allocation.size && !requests_dedicated(desc.allocation_scheme)
+    wanted == size && !requests_dedicated(desc.allocation_scheme)
 }
 
 /// A second place for an allocation, for its request again; `None` where it isn't live, or has no place ahead. The device is
@@ -32,7 +33,7 @@ pub fn second_place<D: VulkanDevice>(
     from: &Allocation,
     desc: &AllocationCreateDesc,
 ) -> Result<Option<Allocation>>
-    requires again { is_again from.now desc.now ≡ true }
+    requires again { is_again from.now.size desc.now ≡ true }
     ensures proposed { IsProposed from.now desc.now pool.old result pool.new }
     ensures gives { IfOk result (λ o. IfSome o (λ to. IsSecondPlace desc.now.requirements.alignment
         pool.old.slots from.now to pool.new.slots)) }

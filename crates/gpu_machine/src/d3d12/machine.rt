@@ -27,8 +27,8 @@ use crate::d3d12::answer::{Allocated, Progress, Question};
 use gpu_core::{AllLeaks, MemoryTypes, Piece};
 use gpu_d3d12::{
     AllocationCreateDesc, Committed, CommittedAllocationStatistics, CommittedRequests,
-    ResourceCategory, empty_types, heap_desc, kind_at, refusal_of_answer, request_of, type_count,
-    type_for,
+    ResourceCategory, empty_types, heap_desc, is_again, kind_at, refusal_of_answer, request_of,
+    type_count, type_for,
 };
 use gpu_device::d3d12::{ID3D12Heap, ID3D12Resource, ResourceHeapTier};
 use gpu_pool::{Begun, Requests, answer_awaited, no_answer_awaited};
@@ -215,7 +215,7 @@ impl Machine {
         if self.awaits_answer() {
             return Err(answer_awaited());
         }
-        if desc.size == 0 || !desc.alignment.is_power_of_two() || desc.size != piece.size {
+        if !is_again(piece.size, desc) {
             return Err(AllocationError::InvalidAllocationCreateDesc);
         }
         self.requests.propose_move(index, piece, &request_of(desc))

@@ -25,8 +25,8 @@ use crate::metal::answer::{Allocated, Granted, HeapBack, Progress, Question};
 use gpu_core::{AllLeaks, MemoryTypes, Piece};
 use gpu_device::metal::MTLHeap;
 use gpu_metal::{
-    AllocationCreateDesc, empty_types, heap_descriptor, heap_refusal, location_at, request_of,
-    type_for,
+    AllocationCreateDesc, empty_types, heap_descriptor, heap_refusal, is_again, location_at,
+    request_of, type_for,
 };
 use gpu_pool::{Begun, Requests, answer_awaited, no_answer_awaited};
 use gpu_values::{AllocationError, AllocationSizes, AllocatorReport, Result};
@@ -203,7 +203,7 @@ impl Machine {
         if self.awaits_answer() {
             return Err(answer_awaited());
         }
-        if desc.size == 0 || !desc.alignment.is_power_of_two() || desc.size != piece.size {
+        if !is_again(piece.size, desc) {
             return Err(AllocationError::InvalidAllocationCreateDesc);
         }
         self.requests.propose_move(index, piece, &request_of(desc))

@@ -35,8 +35,8 @@ use gpu_device::vulkan::{MemoryHeap, MemoryPropertyFlags, MemoryTypeInfo};
 use gpu_pool::{Begun, Requests, answer_awaited, no_answer_awaited};
 use gpu_values::{AllocationError, AllocatorReport, MemoryLocation, Result};
 use gpu_vulkan::{
-    AllocationCreateDesc, Settings, Setup, best_type, next_type, refusal_of_memory, request_of,
-    told_parts,
+    AllocationCreateDesc, Settings, Setup, best_type, is_again, next_type, refusal_of_memory,
+    request_of, told_parts,
 };
 use std::alloc::{AllocError, Global};
 use std::marker::Model;
@@ -270,14 +270,10 @@ impl<H: Copy + Eq> Machine<H> {
         if self.awaits_answer() {
             return Err(answer_awaited());
         }
-        if desc.requirements.size == 0 || !desc.requirements.alignment.is_power_of_two() {
+        if !is_again(piece.size, desc) {
             return Err(AllocationError::InvalidAllocationCreateDesc);
         }
-        let request = request_of(desc);
-        if desc.requirements.size != piece.size || request.dedicated {
-            return Err(AllocationError::InvalidAllocationCreateDesc);
-        }
-        self.requests.propose_move(index, piece, &request)
+        self.requests.propose_move(index, piece, &request_of(desc))
     }
 
     /// Renames a piece of the memory type at `index`. `Internal` where the piece isn't live, or a question is open; else

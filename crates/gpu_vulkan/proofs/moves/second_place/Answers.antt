@@ -152,7 +152,7 @@ returns-in-Ok-Some-clause-gives g c =
     let t = a.from.now.memory_type_index in
     let r = c.request_of.result in
     let asks = c.request_of.ensures.asks in
-    let again = asks_again a.from.now a.desc.now c.requires.again in
+    let again = asks_again a.from.now.size a.desc.now c.requires.again in
     let gives : pool.IsNewlyLive is_same_memory a.pool.now.slots c.propose_move.new.self.slots t q × (q.offset % r.alignment ≡ 0) × (q.size ≡ r.size) = rw c.in-Ok-Some.field-0-is at c.in-Ok-Some.ensures.gives in
     let aligned : q.offset % a.desc.now.requirements.alignment ≡ 0 = subst (λ n. q.offset % n ≡ 0) (ap (λ (k : Request). k.alignment) asks) gives.1 in
     second_place (setup_of a.pool.now) a.desc.now a.desc.now.requirements.alignment a.pool.now.slots c.propose_move.new.self.slots a.from.now c.allocation_of.result c.in-Some.piece q

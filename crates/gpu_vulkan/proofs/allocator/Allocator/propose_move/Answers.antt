@@ -10,7 +10,7 @@ use Rattle.gpu_vulkan.proofs.allocator.Allocator.propose_move.Goals as goal
 
 pub returns-else-is_again-clause-step : goal.returns-else-is_again-clause-step
 returns-else-is_again-clause-step g c =
-    let other : is_again c.args.allocation.now c.args.desc.now ≡ false = search rules in
+    let other : is_again c.args.allocation.now.size c.args.desc.now ≡ false = search rules in
     refuse_step g.D.VulkanDevice c.args.allocation.now c.args.desc.now c.args.self.now _ refl other
 
 pub returns-then-is_again-clause-step : goal.returns-then-is_again-clause-step
@@ -22,7 +22,7 @@ returns-then-is_again-clause-step g c =
     let new = c.second_place-result.new.pool in
     let e = c.second_place-result.ensures in
     let p = old.source.setup.properties in
-    let again : is_again from d ≡ true = search rules in
+    let again : is_again from.size d ≡ true = search rules in
     let sound : BlocksWellFormed p.granularity new.slots =
     subst (λ n. BlocksWellFormed n new.slots) (ap (λ (s : Pool g.row.D.Denot). s.source.setup.properties.granularity) e.others) c.blocks_are_held-then-is_again.ensures.sound in
     let holds : HoldsJustLiveBlocks p (V.held old.source.first) (V.held old.source.device) new.slots =
