@@ -15,3 +15,4 @@ pub mod Leaving
 pub mod OneStep
 pub mod WithoutBudgets
 pub mod Awaiting
+pub mod Ending

@@ -1,11 +1,12 @@
 //! The allocator: blocks of heaps by memory type, and the calls that share them out.
 
-ghost use Rattle.std.specs.Prelude.{◌≡◌, ◌↔◌, ◌%◌, [], All, None, Ok, IfOk, IfErr, OnErr, IfSome, IsNone, IsTrue, length, ◌<◌};
+ghost use Rattle.std.specs.Prelude.{◌≡◌, ◌↔◌, ◌%◌, [], All, None, Ok, IfOk, IfErr, OnErr, IfSome, IsNone, IsTrue, OnOk, length, ◌+◌, ◌<◌, ◌≤◌};
 ghost use Rattle.std.specs.Option.{unwrap_or};
 ghost use Rattle.std.specs.FinMap.{get};
 ghost use Rattle.gpu_values.specs.Refusal.{refusal_of, host_out_of_memory};
 ghost use Rattle.gpu_values.specs.declared.error.AllocationError.TheVariants.{HostOutOfMemory};
-ghost use Rattle.gpu_core.specs.Blocks.{total_capacity, BlocksWellFormed, EachKeepsOneEmptyAtMost};
+ghost use Rattle.gpu_core.specs.Blocks.{slots_at, total_capacity, BlocksWellFormed, EachKeepsOneEmptyAtMost};
+ghost use Rattle.gpu_core.specs.Moves.{moves_left, slots_above};
 ghost use Rattle.gpu_core.specs.Budgets.{budget_at, budgets};
 ghost use Rattle.gpu_core.specs.Types.{slots_of, kinds};
 ghost use Rattle.gpu_d3d12.specs.DeviceVersion.{device_of, with_device};
@@ -252,6 +253,49 @@ impl<D: D3D12Device> Allocator<D> {
         }
         self.pool
             .propose_move_named(self.alloc, allocation, &request_of(desc))
+    }
+
+    /// Finishes a move: frees the first place of an allocation, whose owner uses the second from then on. A live one is never
+    /// refused; any other comes back as it was, beside `Internal`, and then nothing changes. Its block goes back as by `free`. It
+    /// takes no memory.
+    pub fn finish_move<L: Log>(
+        &mut self,
+        log: &L,
+        from: Allocation,
+        to: &Allocation,
+    ) -> Result<(), (AllocationError, Allocation)>
+        ensures frees { Frees D.D3D12Device from self.old result self.new }
+        ensures constant { (self.new.first ≡ self.old.first) × (self.new.setup ≡ self.old.setup) }
+        ensures journal { self.new.journal ≡ self.old.journal }
+        ensures step { IsStep D.D3D12Device (Free from) (freed_as result) self.old self.new }
+        ensures stays { from.memory_block_index < to.now.memory_block_index
+            → IsLive self.old.slots to.now → IsLive self.new.slots to.now }
+        ensures keeps { (b : Allocation) → IsLive self.old.slots b → AreDistinct b from
+            → IsLive self.new.slots b }
+        ensures fewer { OnOk result (moves_left (slots_at self.new.slots from.memory_type_index)
+            + slots_above (slots_at self.old.slots from.memory_type_index) from.memory_block_index
+            ≤ moves_left (slots_at self.old.slots from.memory_type_index)) }
+    {
+        self.free(log, from)
+    }
+
+    /// Abandons a move: frees the second place of an allocation, which stays where it was. It refuses as `finish_move` does.
+    pub fn abandon_move<L: Log>(
+        &mut self,
+        log: &L,
+        from: &Allocation,
+        to: Allocation,
+    ) -> Result<(), (AllocationError, Allocation)>
+        ensures frees { Frees D.D3D12Device to self.old result self.new }
+        ensures constant { (self.new.first ≡ self.old.first) × (self.new.setup ≡ self.old.setup) }
+        ensures journal { self.new.journal ≡ self.old.journal }
+        ensures step { IsStep D.D3D12Device (Free to) (freed_as result) self.old self.new }
+        ensures stays { from.now.memory_block_index < to.memory_block_index
+            → IsLive self.old.slots from.now → IsLive self.new.slots from.now }
+        ensures keeps { (b : Allocation) → IsLive self.old.slots b → AreDistinct b to
+            → IsLive self.new.slots b }
+    {
+        self.free(log, to)
     }
 
     /// Bounds the sum of the sizes of the blocks of a memory type, in bytes: a request that needs a new block beyond it is

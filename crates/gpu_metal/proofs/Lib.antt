@@ -9,3 +9,4 @@ pub mod Leaving
 pub mod Giving
 pub mod Steps
 pub mod OneStep
+pub mod Ending

@@ -23,4 +23,5 @@ pub mod Named
 pub mod EqualButBytes
 pub mod Untouched
 pub mod Moving
+pub mod Ending
 pub mod Reading

@@ -1,10 +1,11 @@
 //! The allocator: blocks of device memory by memory type, and the calls that share them out.
 
-ghost use Rattle.std.specs.Prelude.{◌≡◌, ◌↔◌, [], All, map, Some, None, IfOk, IfErr, OnOk, OnErr, IsSome, IsNone, IfSome, OnSome, IsTrue, List, ℕ, length, option_copied, ◌%◌, ◌<◌};
+ghost use Rattle.std.specs.Prelude.{◌≡◌, ◌↔◌, [], All, map, Some, None, IfOk, IfErr, OnOk, OnErr, IsSome, IsNone, IfSome, OnSome, IsTrue, List, ℕ, length, option_copied, ◌%◌, ◌+◌, ◌<◌, ◌≤◌};
 ghost use Rattle.std.specs.Option.{unwrap_or};
 ghost use Rattle.gpu_values.specs.Refusal.{refusal_of, host_out_of_memory};
 ghost use Rattle.gpu_vulkan.specs.Setup.{setup_fault};
-ghost use Rattle.gpu_core.specs.Blocks.{total_capacity, BlocksWellFormed, EachKeepsOneEmptyAtMost};
+ghost use Rattle.gpu_core.specs.Blocks.{slots_at, total_capacity, BlocksWellFormed, EachKeepsOneEmptyAtMost};
+ghost use Rattle.gpu_core.specs.Moves.{moves_left, slots_above};
 ghost use Rattle.gpu_pool.specs.Told.{Reports, SetsBudgetAt, TextsLeaks};
 ghost use Rattle.gpu_pool.specs.Handles.{all_handles};
 ghost use Rattle.gpu_vulkan.specs.BlockAnswer.{frees_recorded};
@@ -210,6 +211,51 @@ impl<D: VulkanDevice> Allocator<D> {
         } else {
             Err(AllocationError::InvalidAllocationCreateDesc)
         }
+    }
+
+    /// Finishes a move: frees the first place of an allocation, whose owner uses the second from then on. A null one is nothing to free. A live one is never
+    /// refused; any other comes back as it was, beside `Internal`, and then nothing changes. Its block goes back as by `free`. It
+    /// takes no memory.
+    pub fn finish_move<L: Log>(
+        &mut self,
+        log: &L,
+        from: Allocation,
+        to: &Allocation,
+    ) -> Result<(), (AllocationError, Allocation)>
+        ensures frees { Frees D.VulkanDevice from self.old.slots self.old.device result
+            self.new.slots self.new.device }
+        ensures constant { (self.new.first ≡ self.old.first) × (self.new.setup ≡ self.old.setup)
+            × (self.new.budgets ≡ self.old.budgets) }
+        ensures step { IsStep D.VulkanDevice (Free from) (freed_as result) self.old self.new }
+        ensures stays { from.memory_block_index < to.now.memory_block_index
+            → IsLive self.old.slots to.now → IsLive self.new.slots to.now }
+        ensures keeps { (b : Allocation) → IsLive self.old.slots b → AreDistinct b from
+            → IsLive self.new.slots b }
+        ensures fewer { IsLive self.old.slots from → moves_left (slots_at self.new.slots from.memory_type_index)
+            + slots_above (slots_at self.old.slots from.memory_type_index) from.memory_block_index
+            ≤ moves_left (slots_at self.old.slots from.memory_type_index) }
+    {
+        self.free(log, from)
+    }
+
+    /// Abandons a move: frees the second place of an allocation, which stays where it was. It refuses as `finish_move` does.
+    pub fn abandon_move<L: Log>(
+        &mut self,
+        log: &L,
+        from: &Allocation,
+        to: Allocation,
+    ) -> Result<(), (AllocationError, Allocation)>
+        ensures frees { Frees D.VulkanDevice to self.old.slots self.old.device result
+            self.new.slots self.new.device }
+        ensures constant { (self.new.first ≡ self.old.first) × (self.new.setup ≡ self.old.setup)
+            × (self.new.budgets ≡ self.old.budgets) }
+        ensures step { IsStep D.VulkanDevice (Free to) (freed_as result) self.old self.new }
+        ensures stays { from.now.memory_block_index < to.memory_block_index
+            → IsLive self.old.slots from.now → IsLive self.new.slots from.now }
+        ensures keeps { (b : Allocation) → IsLive self.old.slots b → AreDistinct b to
+            → IsLive self.new.slots b }
+    {
+        self.free(log, to)
     }
 
     /// The sum of the sizes of the live blocks, in bytes.
