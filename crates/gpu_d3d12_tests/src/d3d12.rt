@@ -1,5 +1,6 @@
 //! Worked rows of the DirectX 12 allocator.
 
+mod defragmentation;
 mod log_lines;
 mod moves;
 mod pieces;

@@ -1,30 +1,26 @@
 //! Moves of a frame, and those that are open.
 
-ghost use Rattle.std.specs.Prelude.{◌≡◌, [], OnOk, OnErr, MatchOption};
-ghost use Rattle.gpu_vulkan.specs.Rename.{StayLive};
-ghost use Rattle.gpu_defragment.specs.Defragmentation.{Proposes, Takes};
+ghost use Rattle.std.specs.Prelude.{◌≡◌, ◌↔◌, [], OnOk, OnErr, IsTrue};
+ghost use Rattle.gpu_defragment.specs.Defragmentation.{IsWithin, Takes, opened};
 
 use crate::Move;
-use gpu_device::vulkan::VulkanDevice;
-use gpu_values::AllocationError;
-use gpu_vulkan::{Allocation, AllocationCreateDesc, Allocator};
 use std::alloc::{AllocError, Global};
 use std::marker::Model;
 
-/// Moves of allocations, bounded by bytes and by number a frame. A move stays open over any number of frames, until the caller takes it
-/// out and finishes or abandons it.
+/// Moves of an API's allocations, bounded by bytes and by number a frame. A move stays open over any number of frames, until the caller
+/// takes it out and finishes or abandons it.
 #[derive(Drop)]
-pub struct Defragmentation {
-    moves: Vec<Move>,
+pub struct Defragmentation<A: Drop> {
+    moves: Vec<Move<A>>,
     bytes_left: u64,
     moves_left: usize,
 }
 
-impl Model for Defragmentation {
+impl<A: Drop> Model for Defragmentation<A> {
     ghost use Rattle.std.specs.Prelude.{◌+◌, ◌≤◌, length, vec_capacity};
     ghost use Rattle.gpu_defragment.specs.Defragmentation.{DefragmentationState};
 
-    ghost Value = { DefragmentationState };
+    ghost Value = { DefragmentationState A };
 
     ghost view = { λ d. record {
       moves = d.moves.items;
@@ -35,9 +31,9 @@ impl Model for Defragmentation {
     ghost invariant = { λ d. length d.moves.items + d.moves_left ≤ vec_capacity d.moves };
 }
 
-impl Defragmentation {
+impl<A: Drop> Defragmentation<A> {
     /// No move is open, and none may be proposed before a frame begins. It takes no memory.
-    pub fn new(alloc: Global) -> Defragmentation
+    pub fn new(alloc: Global) -> Defragmentation<A>
         ensures { result ≡ record { moves = []; bytes_left = 0; moves_left = 0 } }
     {
         Defragmentation {
@@ -60,37 +56,25 @@ impl Defragmentation {
         Ok(())
     }
 
-    /// Proposes a move of an allocation, by its request again: those in the lowest slots first, so that low blocks empty. Where it has
-    /// a second place the move is open, the last of `open`, and `None` comes back; where the frame has no room for it, or no
-    /// block ahead a place, the allocation comes back. The errors are those of `Allocator::propose_move`, and it comes back beside them;
-    /// nothing changes.
-    pub fn propose<D: VulkanDevice>(
-        &mut self,
-        allocator: &mut Allocator<D>,
-        from: Allocation,
-        desc: &AllocationCreateDesc,
-    ) -> Result<Option<Allocation>, (AllocationError, Allocation)>
-        ensures proposes { Proposes D.VulkanDevice from desc.now self.old allocator.old result
-            self.new allocator.new }
-        ensures keeps { StayLive allocator.old.slots allocator.new.slots }
+    /// Whether the frame has room for a move of so many bytes.
+    pub fn has_room(&self, size: u64) -> bool
+        ensures { IsTrue result ↔ IsWithin self.now size }
     {
-        if self.moves_left == 0 || from.size() > self.bytes_left {
-            return Ok(Some(from));
-        }
-        match allocator.propose_move(&from, desc) {
-            Err(error) => Err((error, from)),
-            Ok(None) => Ok(Some(from)),
-            Ok(Some(to)) => {
-                self.bytes_left -= from.size();
-                self.moves_left -= 1;
-                self.moves.push_reserved(Move { from, to });
-                Ok(None)
-            }
-        }
+        self.moves_left > 0 && size <= self.bytes_left
+    }
+
+    /// Opens a move of so many bytes, for which the frame has room.
+    pub(crate) fn open_move(&mut self, size: u64, from: A, to: A)
+        requires within { IsWithin self.old size }
+        ensures { self.new ≡ opened self.old size (record { from = from; to = to }) }
+    {
+        self.bytes_left -= size;
+        self.moves_left -= 1;
+        self.moves.push_reserved(Move { from, to });
     }
 
     /// The moves that are open, in the order in which they were proposed.
-    pub fn open(&self) -> &[Move]
+    pub fn open(&self) -> &[Move<A>]
         ensures { result.now ≡ self.now.moves }
     {
         &self.moves
@@ -98,7 +82,7 @@ impl Defragmentation {
 
     /// Takes an open move out, by its place in `open`, to be finished or abandoned; `None` where there is none, and then nothing
     /// changes.
-    pub fn take(&mut self, index: usize) -> Option<Move>
+    pub fn take(&mut self, index: usize) -> Option<Move<A>>
         ensures { Takes index self.old result self.new }
     {
         if index < self.moves.len() {

@@ -1,5 +1,6 @@
 //! The Metal allocator.
 
+mod defragmentation;
 mod log_lines;
 mod moves;
 mod refusals;

@@ -8,13 +8,13 @@ use gpu_d3d12::{Resource, ResourceType};
 use std::test::Fail;
 
 /// How a test ends.
-type Outcome = std::result::Result<(), Fail>;
+pub(super) type Outcome = std::result::Result<(), Fail>;
 
 /// What a run ends with in which one request was refused.
 const TOLD: &str = "one call was refused, and nothing was lost";
 
 /// How a test ends in which so many calls were refused, where nothing is held then.
-fn ends(refused: u64, held: usize) -> Outcome {
+pub(super) fn ends(refused: u64, held: usize) -> Outcome {
     match (refused, held) {
         (0, 0) => Ok(()),
         (1, 0) => Err(Fail::new(TOLD)),

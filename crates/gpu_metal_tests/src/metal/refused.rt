@@ -6,13 +6,13 @@ use super::*;
 use std::test::Fail;
 
 /// How a test ends.
-type Outcome = std::result::Result<(), Fail>;
+pub(super) type Outcome = std::result::Result<(), Fail>;
 
 /// What a run ends with in which one request was refused.
 const TOLD: &str = "one call was refused, and nothing was lost";
 
 /// How a test ends in which so many calls were refused, if the device holds what it should.
-fn ends(refused: u64, held: bool) -> Outcome {
+pub(super) fn ends(refused: u64, held: bool) -> Outcome {
     match (refused, held) {
         (0, true) => Ok(()),
         (1, true) => Err(Fail::new(TOLD)),

@@ -3,7 +3,7 @@
 mod refused;
 
 use super::*;
-use gpu_defragment::{Defragmentation, Finished, Move};
+use gpu_defragment::vulkan::{Defragmentation, Finished, Move};
 use gpu_values::AllocationError;
 
 /// A piece that fills half a block.
