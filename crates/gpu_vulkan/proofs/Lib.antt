@@ -1,4 +1,6 @@
 pub mod Taken
+pub mod Cheapest
+pub mod TypeBits
 pub mod Heaps
 pub mod Changing
 pub mod Attempts

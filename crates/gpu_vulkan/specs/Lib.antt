@@ -1,5 +1,6 @@
 pub mod Describe
 pub mod Choice
+pub mod Preference
 pub mod Types
 pub mod Setup
 pub mod BlockAnswer

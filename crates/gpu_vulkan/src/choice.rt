@@ -51,7 +51,7 @@ fn has_bit(bits: u32, index: usize) -> bool
 }
 
 /// Whether a memory type's bit is set and it has all the flags.
-fn serves(info: &MemoryTypeInfo, index: usize, bits: u32, flags: MemoryPropertyFlags) -> bool
+pub fn serves(info: &MemoryTypeInfo, index: usize, bits: u32, flags: MemoryPropertyFlags) -> bool
     ensures { result ≡ serves bits flags.0 index info.now }
 {
     has_bit(bits, index) && info.property_flags.contains(flags)
