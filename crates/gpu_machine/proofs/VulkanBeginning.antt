@@ -1,5 +1,5 @@
 -- Requests at Vulkan's machine, as its code comes to them, and its other calls as the allocator's.
-use Rattle.std.proofs.Common.{◌≡◌, ◌∙◌, refl, sym, ap, subst, inl, inr, ⊎_elim, ℕ, ◌≤◌, Bool, true, false, List, [], ◌∷◌, zero, suc, length, Option, Some, None, Ok, Err, Result, arith, IsTrue}
+use Rattle.std.proofs.Common.{◌≡◌, ◌∙◌, refl, sym, ap, subst, ⊎_elim, ℕ, Bool, true, false, List, [], ◌∷◌, zero, suc, length, Option, Some, None, Ok, Err, Result, arith, IsTrue}
 use Rattle.std.specs.Borrow.{Bor}
 use Rattle.std.specs.List.{slice_get}
 use Rattle.std.specs.Option.{option_map, unwrap_or}
@@ -19,58 +19,39 @@ use Rattle.gpu_core.specs.TypeReport.{block_in}
 use Rattle.gpu_core.proofs.Options.{none_some, some_same}
 use Rattle.gpu_pool.specs.State.{IsSoundAt}
 use Rattle.gpu_vulkan.proofs.Leaving.{kind_told}
-use Rattle.gpu_core.specs.TypeTake.{asked}
 use Rattle.gpu_core.specs.Rename.{IsNotNamed}
 use Rattle.gpu_core.specs.declared.piece.Piece.{Piece}
-use Rattle.gpu_core.specs.declared.piece.Request as type_requests
 use Rattle.gpu_device.specs.declared.vulkan.device.VulkanDevice.{Ghosts}
 use Rattle.gpu_device.specs.declared.vulkan.types.DeviceMemory.{DeviceMemory}
-use Rattle.gpu_pool.specs.Allocate.{RequestAt, request_at}
 use Rattle.gpu_pool.specs.Begin as pools
 use Rattle.gpu_pool.specs.Idle.{FreesIn, RenamesIn, RenamesIdle}
 use Rattle.gpu_pool.specs.RequestState.{RequestState}
 use Rattle.gpu_pool.specs.declared.requests.Awaited.{Awaited}
-use Rattle.gpu_vulkan.specs.Describe.{request_of, requests_dedicated}
 use Rattle.gpu_vulkan.specs.Free as allocators
 use Rattle.gpu_vulkan.specs.Free.{GivesBack}
 use Rattle.gpu_vulkan.specs.Live.{is_same_memory, piece_of}
 use Rattle.gpu_vulkan.specs.Rename as names
 use Rattle.gpu_vulkan.specs.Rename.{IsNamed}
 use Rattle.gpu_vulkan.specs.Setup.{Setup}
-use Rattle.gpu_vulkan.specs.Types.{heap_size, is_host_visible}
+use Rattle.gpu_vulkan.specs.Types.{is_host_visible}
 use Rattle.gpu_vulkan.specs.declared.allocation.Allocation.{Allocation}
 use Rattle.gpu_vulkan.specs.declared.describe.AllocationCreateDesc.{AllocationCreateDesc}
 use Rattle.gpu_vulkan.specs.Allocate.{next_type}
-use Rattle.gpu_machine.specs.VulkanBegin.{request_in, begun_in, Tells, asking_after, IsTooLarge, IsWithinHeap, Tries, Follows, Declines, DeclinesIn, closed, next_for}
+use Rattle.gpu_vulkan.specs.declared.preference.Preference.{Preference}
+use Rattle.gpu_machine.specs.VulkanBegin.{Follows, Declines, DeclinesIn, closed, GoesOnBy, GoesOnFor}
+use Rattle.gpu_machine.specs.VulkanByFlags.{FollowsDown}
 use Rattle.gpu_machine.specs.VulkanDescription.{Description, description_of}
 use Rattle.gpu_machine.specs.VulkanCalls.{Frees, memory_in}
+use Rattle.gpu_machine.specs.VulkanHeapLimit.{Limits}
 use Rattle.gpu_machine.specs.VulkanState.{State, IsOver, KeepsRequest}
 use Rattle.gpu_machine.specs.declared.vulkan.answer.MemoryBack.{MemoryBack}
 use Rattle.gpu_machine.specs.declared.vulkan.answer.Progress.{Progress}
 use Rattle.gpu_machine.specs.declared.vulkan.asking.Asking.{Asking}
 
--- ---- an attempt
-
--- what a memory type is asked, as the code asks it
-pub asked_as : (t : ℕ) (r : type_requests.Request) (d : AllocationCreateDesc) → asked r ≡ request_of d → r.dedicated ≡ requests_dedicated d.allocation_scheme → request_at t r tt ≡ request_in t d
-asked_as t r d asks own i = record { memory_type = t; requested_dedicated = own i; request = asks i; extra = tt }
-
 -- there are as many memory types as the device has
 pub as_many : {H : Type 0} (setup : Setup) (requests : RequestState H) → IsOver setup requests → length requests.kinds ≡ length setup.properties.types
 as_many setup requests over =
     ap (λ (ks : List (Bool × ℕ)). length ks) over.kinds ∙ length-map {B = Bool × ℕ} setup.properties.types (λ info. (is_host_visible info, setup.properties.granularity))
-
-module _ {H : Type 0} (old new : State H) (t : ℕ) (r : type_requests.Request) (d : AllocationCreateDesc) (asks : asked r ≡ request_of d) (own : r.dedicated ≡ requests_dedicated d.allocation_scheme)
-    (below : d.requirements.size ≤ heap_size old.setup.properties t) (is_second : Bool) where
-  pub tried : (result : Result (Progress H) AllocationError) → pools.Begins (request_at t r tt) old.requests (begun_in result) new.requests → Tells old.setup t result
-      → new ≡ record old { requests = new.requests; asking = asking_after old.asking d is_second result } → Tries old t d is_second result new
-  tried result begins tells state =
-      inr (record {
-        below = below;
-        begins = subst (λ (q : RequestAt (Unit {0})). pools.Begins q old.requests (begun_in result) new.requests) (asked_as t r d asks own) begins;
-        tells = tells;
-        state = state;
-      })
 
 -- ---- frees and names as the allocator's
 
@@ -155,44 +136,35 @@ abbrev saying : AllocationCreateDesc → Description → AllocationCreateDesc
 saying d k = record { name = record d.name { now = k.name }; requirements = k.requirements; location = k.location; linear = k.linear; allocation_scheme = k.scheme }
 
 module _ {H : Type 0} (old : State H) (refusal : Refusal) (result : Result (Progress H) AllocationError) (new : State H) where
-  tries_moved : (p q : AllocationCreateDesc) (k : Description) (t : ℕ) → Tries old t (saying p k) true result new → Tries old t (saying q k) true result new
-  tries_moved p q k t h =
-      ⊎_elim (λ (large : IsTooLarge old t (saying p k) result new). inl (record { above = large.above; refused = large.refused }))
-      (λ (within : IsWithinHeap old t (saying p k) true result new). inr (record { below = within.below; begins = within.begins; tells = within.tells; state = within.state }))
-      h
-
-  follows_moved : (p q : AllocationCreateDesc) (k : Description) (next : Option ℕ) → Follows old (saying p k) next refusal result new → Follows old (saying q k) next refusal result new
-  follows_moved p q k None h = h
-  follows_moved p q k (Some t) h = tries_moved p q k t h
-
   -- a description that says the same leads to the same
   follows_alike : (d e : AllocationCreateDesc) → description_of d ≡ description_of e → Follows old d (next_type old.setup d refusal) refusal result new → Follows old e (next_type old.setup e refusal) refusal result new
   follows_alike d e same h =
       subst (λ (k : Description). Follows old (saying e k) (next_type old.setup (saying e k) refusal) refusal result new) same
-      (follows_moved d e (description_of d) (next_type old.setup d refusal) h)
+      h
 
-module _ {H : Type 0} (setup : Setup) (requests : RequestState H) (asking : Option Asking) (kept : KeepsRequest requests.awaited asking) (r : Asking) (is : asking ≡ Some r) (first : r.is_second ≡ false) where
+  -- and goes on so
+  goes_on_alike : (p : Option Preference) (is_second : Bool) (d e : AllocationCreateDesc) → description_of d ≡ description_of e → GoesOnBy p is_second old d refusal result new → GoesOnBy p is_second old e refusal result new
+  goes_on_alike None true d e same h = h
+  goes_on_alike None false d e same h = follows_alike d e same h
+  goes_on_alike (Some p) is_second d e same h = subst (λ (k : Description). FollowsDown p old k refusal result new) same h
+
+module _ {H : Type 0} (setup : Setup) (limits : Limits) (most : Option ℕ) (requests : RequestState H) (asking : Option Asking) (kept : KeepsRequest requests.awaited asking) (r : Asking) (is : asking ≡ Some r) where
   abbrev before : State H
-  before = record { setup = setup; requests = requests; asking = asking }
+  before = record { setup = setup; limits = limits; most_blocks = most; requests = requests; asking = asking }
 
-  -- the second attempt counts, where there is one
+  -- what is left of the request counts
   pub goes_on : (left : RequestState H) → pools.Declines requests (Ok tt) left → (lent : AllocationCreateDesc) → description_of lent ≡ r.description → (refusal : Refusal)
       → (result : Result (Progress H) AllocationError) (new : State H)
-      → Follows (record { setup = setup; requests = left; asking = None }) lent (next_type setup lent refusal) refusal result new
+      → GoesOnFor r (record { setup = setup; limits = limits; most_blocks = most; requests = left; asking = None }) lent refusal result new
       → Declines before refusal result new
   goes_on left over lent says refusal result new follows =
       let a = kept_awaited requests.awaited asking r kept is in
       let closes : left ≡ record requests { awaited = None } = subst (λ (o : Option Awaited). pools.DeclinesIn o requests (Ok tt) left) a.1 over in
-      let idle : Follows (closed before) lent (next_type setup lent refusal) refusal result new =
-      subst (λ (q : RequestState H). Follows (record { setup = setup; requests = q; asking = None }) lent (next_type setup lent refusal) refusal result new) closes follows in
+      let idle : GoesOnFor r (closed before) lent refusal result new =
+      subst (λ (q : RequestState H). GoesOnFor r (record { setup = setup; limits = limits; most_blocks = most; requests = q; asking = None }) lent refusal result new) closes follows in
       subst (λ (o : Option Awaited). DeclinesIn o before refusal result new) (sym a.1) (
         r,
-        record {
-          kept = is;
-          follows = λ d same.
-              subst (λ (b : Bool). Follows (closed before) d (next_for setup b d refusal) refusal result new) (sym first)
-              (follows_alike (closed before) refusal result new lent d (says ∙ sym same) idle);
-        },
+        record { kept = is; follows = λ d same. goes_on_alike (closed before) refusal result new r.preference r.is_second lent d (says ∙ sym same) idle },
       )
 
 -- ---- a memory type that is lent

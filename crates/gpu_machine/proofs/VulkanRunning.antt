@@ -1,6 +1,9 @@
 -- Requests that a device answers, from their beginning to their end, as allocations.
 use Rattle.std.proofs.Common.{◌≡◌, ◌∙◌, ◌⊎◌, refl, sym, ap, subst, inl, inr, ⊎_elim, ℕ, ℤ, zero, suc, Bool, true, false, List, Option, Some, None, Ok, Err, Result, arith, ◌≤◌}
-use Rattle.std.specs.Prelude.{IsOk}
+use Rattle.std.specs.Prelude.{IsOk, length, slice_get}
+use Rattle.std.proofs.lemmas.Bool.{cases_lt}
+use Rattle.std.proofs.lemmas.List.{get_or_past}
+use Rattle.gpu_device.specs.declared.vulkan.types.MemoryTypeInfo.{MemoryTypeInfo}
 use Rattle.gpu_values.specs.Refusal.{Refusal, refusal_of, refusal_in, out_of_memory, failed_to_map, no_compatible_memory_type_found, invalid_allocation_create_desc, invalid_allocator_create_desc}
 use Rattle.gpu_values.specs.Refusal.{internal, barrier_layout_needs_device10, castable_formats_requires_enhanced_barriers, castable_formats_requires_at_least_device12, host_out_of_memory, budget_exceeded}
 use Rattle.gpu_values.specs.declared.error.AllocationError.{AllocationError}
@@ -30,10 +33,12 @@ use Rattle.gpu_vulkan.specs.Types.{is_mapped, heap_size, kinds_of_device}
 use Rattle.gpu_vulkan.specs.declared.allocation.Allocation.{Allocation}
 use Rattle.gpu_vulkan.specs.declared.describe.AllocationCreateDesc.{AllocationCreateDesc}
 use Rattle.gpu_vulkan.proofs.Attempts.{attempted}
-use Rattle.gpu_machine.specs.VulkanBegin.{request_in, IsTooLarge, IsWithinHeap, Tries, Follows, IsDenied, MakesAttempts, BeginsAt, BeginsBy, BeginsIn, Begins, GrantsIn, DeclinesIn, Receives, closed, next_for}
+use Rattle.gpu_machine.specs.VulkanBegin.{request_in, IsTooLarge, IsWithinHeap, Tries, Follows, IsDenied, MakesAttempts, BeginsAt, BeginsBy, BeginsIn, Begins, GrantsIn, DeclinesIn, Receives, closed, next_for, asking_of, GoesOnFor}
+use Rattle.gpu_machine.specs.VulkanAttempt.{IsAboveLimit, is_forbidden}
 use Rattle.gpu_machine.specs.VulkanDescription.{description_of}
+use Rattle.gpu_machine.specs.VulkanHeapLimit.{Limits, HasNoLimits, limit_at, held_in, is_above, passes_of}
 use Rattle.gpu_machine.specs.VulkanRun.{State, Allocated, Progress, HearsGrant, Hears, IsAnswered, Finishes, Runs, Returns}
-use Rattle.gpu_machine.specs.VulkanState.{IsOver, IsRefused}
+use Rattle.gpu_machine.specs.VulkanState.{IsOver, IsUnlimited, IsRefused}
 use Rattle.gpu_machine.specs.declared.vulkan.answer.Question.{Question}
 use Rattle.gpu_machine.specs.declared.vulkan.answer.Progress.TheVariants as progress
 use Rattle.gpu_machine.specs.declared.vulkan.asking.Asking.{Asking}
@@ -69,14 +74,22 @@ error_is castable_formats_requires_at_least_device12 = refl
 error_is host_out_of_memory = refl
 error_is budget_exceeded = refl
 
-module _ {D : Type 0} (g : Ghosts D) (setup : Setup) (budgets : Budgets) (d : AllocationCreateDesc) where
+no_limit_at : (limits : Limits) (heap : ℕ) → HasNoLimits limits → limit_at limits heap ≡ None
+no_limit_at limits heap none = ⊎_elim (λ below. none heap None below) (λ past. get_or_past limits heap None past) (cases_lt heap (length limits))
+
+none_passes : (info : Option MemoryTypeInfo) (infos : List MemoryTypeInfo) (limits : Limits) (slots : Slots) (size : ℕ) → HasNoLimits limits → passes_of info infos limits slots size ≡ true → ⊥
+none_passes None infos limits slots size none h = absurd (grind (arith, h))
+none_passes (Some info) infos limits slots size none h =
+    absurd (grind (arith, subst (λ (o : Option ℕ). is_above (held_in infos info.heap_index slots) o size ≡ true) (no_limit_at limits info.heap_index none) h))
+
+module _ {D : Type 0} (g : Ghosts D) (setup : Setup) (budgets : Budgets) (limits : Limits) (none : HasNoLimits limits) (d : AllocationCreateDesc) where
   -- the blocks, where none is awaited
   abbrev idle : Slots → RequestState DeviceMemory
   idle slots = record { kinds = kinds_of_device setup.properties; sizes = setup.sizes; slots = slots; budgets = budgets; awaited = None }
 
   -- the machine with these blocks, where no question is open
   abbrev at : Slots → State
-  at slots = record { setup = setup; requests = idle slots; asking = None }
+  at slots = record { setup = setup; limits = limits; most_blocks = None; requests = idle slots; asking = None }
 
   abbrev Outcome : Type 0
   Outcome = Result Allocation AllocationError
@@ -136,8 +149,12 @@ module _ {D : Type 0} (g : Ghosts D) (setup : Setup) (budgets : Budgets) (d : Al
             (λ allocation of_it.
             of_pool slots t device device (Ok a.piece) (Ok allocation) new.requests ends h.below
             (subst (λ (n : ℕ). IsAllocated setup n d a.piece allocation) h.tells.0 of_it));
-        same = h.state ∙ (λ i. record { setup = setup; requests = same i; asking = None });
+        same = h.state ∙ (λ i. record { setup = setup; limits = limits; most_blocks = None; requests = same i; asking = None });
       }
+
+  -- no block is above a limit where there is none
+  never_forbidden : (t : ℕ) (slots : Slots) (size : ℕ) → is_forbidden (at slots) t size ≡ true → ⊥
+  never_forbidden t slots size passes = none_passes (slice_get setup.properties.types t) setup.properties.types limits slots size none passes
 
   -- an attempt that is refused without a question
   record WasDenied (slots : Slots) (t : ℕ) (device : D) (e : AllocationError) (new : State) : Type 0 where
@@ -164,19 +181,23 @@ module _ {D : Type 0} (g : Ghosts D) (setup : Setup) (budgets : Budgets) (d : Al
         fails = λ f is.
             subst (λ (ss : Slots). Attempted slots t device (Err f) ss device) (ap (λ (r : RequestState DeviceMemory). r.slots) same)
             (of_pool slots t device device (Err (refusal_of e)) (Err f) new.requests ends h.below is);
-        same = h.state ∙ (λ i. record { setup = setup; requests = same i; asking = None });
+        same = h.state ∙ (λ i. record { setup = setup; limits = limits; most_blocks = None; requests = same i; asking = None });
       }
 
   denied : (is_second : Bool) (slots : Slots) (t : ℕ) (device : D) (e : AllocationError) (new : State) → Tries (at slots) t d is_second (Err e) new → WasDenied slots t device e new
   denied is_second slots t device e new h =
       ⊎_elim (λ (large : IsTooLarge (at slots) t d (Err e) new). denied_large slots t device e new large)
+      (λ rest. ⊎_elim (λ (above : IsAboveLimit (at slots) t (description_of d) (Err e) new). absurd (never_forbidden t slots above.question.size above.passes))
       (λ (within : IsWithinHeap (at slots) t d is_second (Err e) new). denied_within is_second slots t device e new within)
+      rest)
       h
 
   -- an attempt that isn't refused is within its heap
   within_if : (is_second : Bool) (slots : Slots) (t : ℕ) (p : Progress) (new : State) → Tries (at slots) t d is_second (Ok p) new → IsWithinHeap (at slots) t d is_second (Ok p) new
   within_if is_second slots t p new h =
-      ⊎_elim (λ (large : IsTooLarge (at slots) t d (Ok p) new). absurd (none_some _ large.refused.0)) (λ (within : IsWithinHeap (at slots) t d is_second (Ok p) new). within) h
+      ⊎_elim (λ (large : IsTooLarge (at slots) t d (Ok p) new). absurd (none_some _ large.refused.0))
+      (λ rest. ⊎_elim (λ (above : IsAboveLimit (at slots) t (description_of d) (Ok p) new). absurd (none_some _ above.refused.0)) (λ (within : IsWithinHeap (at slots) t d is_second (Ok p) new). within) rest)
+      h
 
   -- ---- attempts with a question
 
@@ -201,13 +222,19 @@ module _ {D : Type 0} (g : Ghosts D) (setup : Setup) (budgets : Budgets) (d : Al
     awaited = record { memory_type = t; need = asks.need }
 
     abbrev kept : Asking
-    kept = record { description = description_of d; is_second = is_second }
+    kept = asking_of d is_second
 
     waiting : mid.requests ≡ record (idle slots) { awaited = Some awaited }
     waiting = asks.state
 
     setup_is : mid.setup ≡ setup
     setup_is = ap (λ (s : State). s.setup) w.state
+
+    limits_are : mid.limits ≡ limits
+    limits_are = ap (λ (s : State). s.limits) w.state
+
+    most_is : mid.most_blocks ≡ None
+    most_is = ap (λ (s : State). s.most_blocks) w.state
 
     abbrev Answers : BlockAnswer → Type 0
     Answers answer = device_answers.Asks g device (question mid.setup q.block.memory_type q.block.size d.allocation_scheme) q.mapped answer between
@@ -240,13 +267,15 @@ module _ {D : Type 0} (g : Ghosts D) (setup : Setup) (budgets : Budgets) (d : Al
         let ends = agreeing.granted (AsksBlock g) t asked d.allocation_scheme (source device) (idle slots) refl q.block mid.requests w.begins (source_after device between) (memory_of number)
         (Ok given.piece) next.requests (as_source answer (Ok (memory_of number)) is a) received in
         let mid_setup = setup_is in
+        let mid_limits = limits_are in
+        let mid_most = most_is in
         let left : next.requests ≡ idle next.requests.slots = r.receives.state ∙ ap (λ (s : RequestState DeviceMemory). record s { slots = next.requests.slots; awaited = None }) waiting in
         record {
           attempted = returns_piece (λ result. Attempted slots t device result next.requests.slots between) given
               (λ allocation of_it.
               of_pool slots t device between (Ok given.piece) (Ok allocation) next.requests ends w.below
               (subst (λ (n : ℕ). IsAllocated setup n d given.piece allocation) r.memory_type of_it));
-          same = r.state ∙ (λ i. record { setup = mid_setup i; requests = left i; asking = None });
+          same = r.state ∙ (λ i. record { setup = mid_setup i; limits = mid_limits i; most_blocks = mid_most i; requests = left i; asking = None });
         }
 
     hears_grant : (number : ℕ) (answer : BlockAnswer) → answer_number answer ≡ Some number → Answers answer → HearsGrant mid number heard next → WasGranted slots t device heard next between
@@ -267,10 +296,11 @@ module _ {D : Type 0} (g : Ghosts D) (setup : Setup) (budgets : Budgets) (d : Al
         subst (λ (o : Option Awaited). pools.DeclinesIn o mid.requests (Ok tt) (record mid.requests { awaited = None })) (sym (ap (λ (s : RequestState DeviceMemory). s.awaited) waiting)) refl in
         let ends = agreeing.declined (AsksBlock g) t asked d.allocation_scheme (source device) (idle slots) refl q.block mid.requests w.begins (source_after device between) why (Ok tt)
         (record mid.requests { awaited = None }) (as_source answer (Err why) is a) over in
-        let back : closed mid ≡ at slots = λ i. record { setup = setup_is i; requests = emptied i; asking = None } in
+        let back : closed mid ≡ at slots = λ i. record { setup = setup_is i; limits = limits_are i; most_blocks = most_is i; requests = emptied i; asking = None } in
         let same_kept : kept ≡ goes.0 = some_same _ _ (sym (ap (λ (s : State). s.asking) w.state) ∙ goes.1.kept) in
         let described : description_of d ≡ goes.0.description = ap (λ (r : Asking). r.description) same_kept in
-        let second : goes.0.is_second ≡ is_second = sym (ap (λ (r : Asking). r.is_second) same_kept) in
+        let follows : Follows (closed mid) d (next_for mid.setup is_second d why) why heard next =
+        subst (λ (r : Asking). GoesOnFor r (closed mid) d why heard next) (sym same_kept) (goes.1.follows d described) in
         record {
           why = why;
           fails = λ f told.
@@ -278,8 +308,7 @@ module _ {D : Type 0} (g : Ghosts D) (setup : Setup) (budgets : Budgets) (d : Al
               (of_pool slots t device between (Err why) (Err f) (record mid.requests { awaited = None }) ends w.below told);
           follows =
               subst (λ (s : State). Follows s d (next_for setup is_second d why) why heard next) back
-              (subst (λ (b : Bool). Follows (closed mid) d (next_for setup b d why) why heard next) second
-              (subst (λ (s : Setup). Follows (closed mid) d (next_for s goes.0.is_second d why) why heard next) setup_is (goes.1.follows d described)));
+              (subst (λ (s : Setup). Follows (closed mid) d (next_for s is_second d why) why heard next) setup_is follows);
         }
 
     answered_by : (answer : BlockAnswer) → Answers answer → Hears mid answer heard next → IsAnswered_
@@ -446,13 +475,15 @@ module _ {D : Type 0} (g : Ghosts D) (setup : Setup) (budgets : Budgets) (d : Al
   valid true slots device n first mid told result new after h fin returns = found _ slots device n first mid told result new after h fin returns
 
 -- a machine where no question is open
-module _ {D : Type 0} (g : Ghosts D) (d : AllocationCreateDesc) (old : State) (over : IsOver old.setup old.requests) (shut : old.requests.awaited ≡ None) (free : old.asking ≡ None) where
+module _ {D : Type 0} (g : Ghosts D) (d : AllocationCreateDesc) (old : State) (over : IsOver old.setup old.requests) (unlimited : IsUnlimited old) (shut : old.requests.awaited ≡ None) (free : old.asking ≡ None) where
   abbrev same_at : State
-  same_at = at g old.setup old.requests.budgets d old.requests.slots
+  same_at = at g old.setup old.requests.budgets old.limits unlimited.heaps d old.requests.slots
 
   is_idle : old ≡ same_at
   is_idle = λ i. record {
     setup = old.setup;
+    limits = old.limits;
+    most_blocks = unlimited.blocks i;
     requests = record { kinds = over.kinds i; sizes = over.sizes i; slots = old.requests.slots; budgets = old.requests.budgets; awaited = shut i };
     asking = free i;
   }
@@ -464,12 +495,12 @@ module _ {D : Type 0} (g : Ghosts D) (d : AllocationCreateDesc) (old : State) (o
   pub allocates : (n : ℕ) (new : State) (device after : D) (told : Result Allocated AllocationError) (result : Result Allocation AllocationError) → Runs g d n old device told new after → Returns old.setup d told result
       → Allocates g old.setup old.requests.budgets d old.requests.slots device result new.requests.slots after × (new ≡ record old { requests = record old.requests { slots = new.requests.slots } })
   allocates n new device after told result runs returns =
-      let all = valid g old.setup old.requests.budgets d (is_valid d) old.requests.slots device n runs.first runs.mid told result new after (begun runs.first runs.mid runs.begins) runs.finishes returns in
+      let all = valid g old.setup old.requests.budgets old.limits unlimited.heaps d (is_valid d) old.requests.slots device n runs.first runs.mid told result new after (begun runs.first runs.mid runs.begins) runs.finishes returns in
       (all.0, all.1 ∙ ap (λ (s : State). record s { requests = record s.requests { slots = new.requests.slots } }) (sym is_idle))
 
 -- ---- at most two questions
 
-module _ {D : Type 0} (g : Ghosts D) (setup : Setup) (budgets : Budgets) (d : AllocationCreateDesc) where
+module _ {D : Type 0} (g : Ghosts D) (setup : Setup) (budgets : Budgets) (limits : Limits) (none : HasNoLimits limits) (d : AllocationCreateDesc) where
   -- what isn't a question needs none
   settled : (n m : ℕ) (mid : State) (device : D) (heard : Result Progress AllocationError) (e : AllocationError) (told : Result Allocated AllocationError) (new : State) (after : D) → heard ≡ Err e
       → Finishes g d n mid device heard told new after → Finishes g d m mid device heard told new after
@@ -485,19 +516,19 @@ module _ {D : Type 0} (g : Ghosts D) (setup : Setup) (budgets : Budgets) (d : Al
 
   -- after the answer to the second attempt's question
   none_left : (slots : Slots) (t : ℕ) (first : D) (n m : ℕ) (heard : Result Progress AllocationError) (next : State) (between : D) (told : Result Allocated AllocationError) (new : State) (after : D)
-      → WasGranted g setup budgets d slots t first heard next between ⊎ WasDeclined g setup budgets d true slots t first heard next between
+      → WasGranted g setup budgets limits none d slots t first heard next between ⊎ WasDeclined g setup budgets limits none d true slots t first heard next between
       → Finishes g d n next between heard told new after → Finishes g d m next between heard told new after
   none_left slots t first n m heard next between told new after h fin =
       ⊎_elim
-      (λ (w : WasGranted g setup budgets d slots t first heard next between). had n m next between heard w.piece told new after w.is fin)
-      (λ (w : WasDeclined g setup budgets d true slots t first heard next between).
-      let e = refused_in g setup budgets d w.why slots heard next w.follows in
+      (λ (w : WasGranted g setup budgets limits none d slots t first heard next between). had n m next between heard w.piece told new after w.is fin)
+      (λ (w : WasDeclined g setup budgets limits none d true slots t first heard next between).
+      let e = refused_in g setup budgets limits none d w.why slots heard next w.follows in
       settled n m next between heard e.0 told new after e.1 fin)
       h
 
   -- from the second attempt on
   one_left : (slots : Slots) (t : ℕ) (device : D) (n m : ℕ) (heard : Result Progress AllocationError) (mid : State) (told : Result Allocated AllocationError) (new : State) (after : D)
-      → Tries (at g setup budgets d slots) t d true heard mid → Finishes g d n mid device heard told new after → Finishes g d (suc m) mid device heard told new after
+      → Tries (at g setup budgets limits none d slots) t d true heard mid → Finishes g d n mid device heard told new after → Finishes g d (suc m) mid device heard told new after
   one_left slots t device n m (Err e) mid told new after h fin = fin
   one_left slots t device n m (Ok (progress.Piece a)) mid told new after h fin = fin
   one_left slots t device zero m (Ok (progress.Question q)) mid told new after h fin = absurd fin
@@ -506,19 +537,19 @@ module _ {D : Type 0} (g : Ghosts D) (setup : Setup) (budgets : Budgets) (d : Al
     fin.1,
     fin.2,
     fin.3,
-    none_left slots t device n m fin.0 fin.1 fin.2 told new after (answered g setup budgets d true slots t q mid device fin.2 fin.0 fin.1 (within_if g setup budgets d true slots t (progress.Question q) mid h) fin.3) fin.4,
+    none_left slots t device n m fin.0 fin.1 fin.2 told new after (answered g setup budgets limits none d true slots t q mid device fin.2 fin.0 fin.1 (within_if g setup budgets limits none d true slots t (progress.Question q) mid h) fin.3) fin.4,
   )
 
   one_follows : (slots : Slots) (o : Option ℕ) (r : Refusal) (device : D) (n m : ℕ) (heard : Result Progress AllocationError) (mid : State) (told : Result Allocated AllocationError) (new : State) (after : D)
-      → Follows (at g setup budgets d slots) d o r heard mid → Finishes g d n mid device heard told new after → Finishes g d (suc m) mid device heard told new after
+      → Follows (at g setup budgets limits none d slots) d o r heard mid → Finishes g d n mid device heard told new after → Finishes g d (suc m) mid device heard told new after
   one_follows slots None r device n m heard mid told new after h fin =
-      let e = refused_in g setup budgets d r slots heard mid h in
+      let e = refused_in g setup budgets limits none d r slots heard mid h in
       settled n (suc m) mid device heard e.0 told new after e.1 fin
   one_follows slots (Some t) r device n m heard mid told new after h fin = one_left slots t device n m heard mid told new after h fin
 
   -- from the first attempt on
   two_left : (slots : Slots) (t : ℕ) (device : D) (n : ℕ) (heard : Result Progress AllocationError) (mid : State) (told : Result Allocated AllocationError) (new : State) (after : D)
-      → Tries (at g setup budgets d slots) t d false heard mid → Finishes g d n mid device heard told new after → Finishes g d 2 mid device heard told new after
+      → Tries (at g setup budgets limits none d slots) t d false heard mid → Finishes g d n mid device heard told new after → Finishes g d 2 mid device heard told new after
   two_left slots t device n (Err e) mid told new after h fin = fin
   two_left slots t device n (Ok (progress.Piece a)) mid told new after h fin = fin
   two_left slots t device zero (Ok (progress.Question q)) mid told new after h fin = absurd fin
@@ -528,37 +559,37 @@ module _ {D : Type 0} (g : Ghosts D) (setup : Setup) (budgets : Budgets) (d : Al
     fin.2,
     fin.3,
     ⊎_elim
-        (λ (w : WasGranted g setup budgets d slots t device fin.0 fin.1 fin.2). had n 1 fin.1 fin.2 fin.0 w.piece told new after w.is fin.4)
-        (λ (w : WasDeclined g setup budgets d false slots t device fin.0 fin.1 fin.2).
+        (λ (w : WasGranted g setup budgets limits none d slots t device fin.0 fin.1 fin.2). had n 1 fin.1 fin.2 fin.0 w.piece told new after w.is fin.4)
+        (λ (w : WasDeclined g setup budgets limits none d false slots t device fin.0 fin.1 fin.2).
         one_follows slots (next_type setup d w.why) w.why fin.2 n 0 fin.0 fin.1 told new after w.follows fin.4)
-        (answered g setup budgets d false slots t q mid device fin.2 fin.0 fin.1 (within_if g setup budgets d false slots t (progress.Question q) mid h) fin.3),
+        (answered g setup budgets limits none d false slots t q mid device fin.2 fin.0 fin.1 (within_if g setup budgets limits none d false slots t (progress.Question q) mid h) fin.3),
   )
 
   two_found : (slots : Slots) (o : Option ℕ) (device : D) (n : ℕ) (heard : Result Progress AllocationError) (mid : State) (told : Result Allocated AllocationError) (new : State) (after : D)
-      → BeginsAt o (at g setup budgets d slots) d heard mid → Finishes g d n mid device heard told new after → Finishes g d 2 mid device heard told new after
+      → BeginsAt o (at g setup budgets limits none d slots) d heard mid → Finishes g d n mid device heard told new after → Finishes g d 2 mid device heard told new after
   two_found slots None device n heard mid told new after h fin =
-      let e = refused_in g setup budgets d no_compatible_memory_type_found slots heard mid h in
+      let e = refused_in g setup budgets limits none d no_compatible_memory_type_found slots heard mid h in
       settled n 2 mid device heard e.0 told new after e.1 fin
   two_found slots (Some t) device n heard mid told new after h fin =
       ⊎_elim
-      (λ (s : IsOk heard × Tries (at g setup budgets d slots) t d false heard mid). two_left slots t device n heard mid told new after s.1 fin)
-      (λ (s : IsDenied (at g setup budgets d slots) t d heard mid).
+      (λ (s : IsOk heard × Tries (at g setup budgets limits none d slots) t d false heard mid). two_left slots t device n heard mid told new after s.1 fin)
+      (λ (s : IsDenied (at g setup budgets limits none d slots) t d heard mid).
       one_follows slots (next_type setup d (refusal_of s.cause)) (refusal_of s.cause) device n 1 heard mid told new after s.follows fin)
       h
 
   two_begun : (slots : Slots) (b : Bool) (device : D) (n : ℕ) (heard : Result Progress AllocationError) (mid : State) (told : Result Allocated AllocationError) (new : State) (after : D)
-      → BeginsBy b (at g setup budgets d slots) d heard mid → Finishes g d n mid device heard told new after → Finishes g d 2 mid device heard told new after
+      → BeginsBy b (at g setup budgets limits none d slots) d heard mid → Finishes g d n mid device heard told new after → Finishes g d 2 mid device heard told new after
   two_begun slots false device n heard mid told new after h fin =
-      let e = refused_in g setup budgets d invalid_allocation_create_desc slots heard mid h in
+      let e = refused_in g setup budgets limits none d invalid_allocation_create_desc slots heard mid h in
       settled n 2 mid device heard e.0 told new after e.1 fin
   two_begun slots true device n heard mid told new after h fin = two_found slots _ device n heard mid told new after h fin
 
 -- a request asks at most two questions
 pub asks_twice : {D : Type 0} (g : Ghosts D) (n : ℕ) (old new : State) (d : AllocationCreateDesc) (device after : D) (told : Result Allocated AllocationError)
-    → IsOver old.setup old.requests → old.requests.awaited ≡ None → old.asking ≡ None → Runs g d n old device told new after → Runs g d 2 old device told new after
-asks_twice g n old new d device after told over shut free runs = record {
+    → IsOver old.setup old.requests → IsUnlimited old → old.requests.awaited ≡ None → old.asking ≡ None → Runs g d n old device told new after → Runs g d 2 old device told new after
+asks_twice g n old new d device after told over unlimited shut free runs = record {
   first = runs.first;
   mid = runs.mid;
   begins = runs.begins;
-  finishes = two_begun g old.setup old.requests.budgets d old.requests.slots (is_valid d) device n runs.first runs.mid told new after (begun g d old over shut free runs.first runs.mid runs.begins) runs.finishes;
+  finishes = two_begun g old.setup old.requests.budgets old.limits unlimited.heaps d old.requests.slots (is_valid d) device n runs.first runs.mid told new after (begun g d old over unlimited shut free runs.first runs.mid runs.begins) runs.finishes;
 }

@@ -1,5 +1,10 @@
 pub mod VulkanDescription
+pub mod VulkanHeapLimit
+pub mod VulkanBlockCount
 pub mod VulkanState
+pub mod VulkanAsking
+pub mod VulkanAttempt
+pub mod VulkanByFlags
 pub mod VulkanBegin
 pub mod VulkanCalls
 pub mod VulkanLive

@@ -1,24 +1,24 @@
 -- What a request at Vulkan's machine leads to: a piece, a refusal, or a question; and what the answers to it do.
-use Rattle.std.specs.Prelude.{◌≡◌, ℕ, ◌<◌, ◌≤◌, ◌⊎◌, Bool, true, false, if◌then◌else◌, Option, Some, None, Result, Ok, Err, IsOk}
-use Rattle.gpu_values.specs.Refusal.{Refusal, refusal_of, out_of_memory, no_compatible_memory_type_found, invalid_allocation_create_desc}
+use Rattle.std.specs.Prelude.{◌≡◌, ℕ, ◌⊎◌, Bool, true, false, if◌then◌else◌, Option, Some, None, Result, Ok, Err, IsOk}
+use Rattle.gpu_values.specs.Refusal.{Refusal, refusal_of, no_compatible_memory_type_found, invalid_allocation_create_desc}
 use Rattle.gpu_values.specs.declared.error.AllocationError.{AllocationError}
 use Rattle.gpu_pool.specs.Allocate.{RequestAt}
 use Rattle.gpu_pool.specs.Begin as pools
 use Rattle.gpu_pool.specs.RequestState.{answer_awaited, no_answer_awaited}
 use Rattle.gpu_pool.specs.declared.requests.Awaited.{Awaited}
-use Rattle.gpu_pool.specs.declared.requests.Begun.{Begun}
-use Rattle.gpu_pool.specs.declared.requests.Begun.TheVariants as begun
 use Rattle.gpu_vulkan.specs.Allocate.{next_type, is_valid}
 use Rattle.gpu_vulkan.specs.Choice.{best_type}
 use Rattle.gpu_vulkan.specs.Describe.{requests_dedicated, request_of}
 use Rattle.gpu_vulkan.specs.Setup.{Setup}
-use Rattle.gpu_vulkan.specs.Types.{is_mapped, heap_size}
+use Rattle.gpu_vulkan.specs.Types.{is_mapped}
 use Rattle.gpu_vulkan.specs.declared.describe.AllocationCreateDesc.{AllocationCreateDesc}
+use Rattle.gpu_vulkan.specs.declared.preference.Preference.{Preference}
+use Rattle.gpu_machine.specs.VulkanAttempt.{Attempts, IsAboveHeap, BeginsWithinHeap}
+use Rattle.gpu_machine.specs.VulkanByFlags.{FollowsDown}
 use Rattle.gpu_machine.specs.VulkanDescription.{description_of}
 use Rattle.gpu_machine.specs.VulkanState.{State, IsRefused}
 use Rattle.gpu_machine.specs.declared.vulkan.answer.Allocated.{Allocated}
 use Rattle.gpu_machine.specs.declared.vulkan.answer.Progress.{Progress}
-use Rattle.gpu_machine.specs.declared.vulkan.answer.Progress.TheVariants as progress
 use Rattle.gpu_machine.specs.declared.vulkan.asking.Asking.{Asking}
 
 -- ---- one attempt
@@ -27,23 +27,9 @@ use Rattle.gpu_machine.specs.declared.vulkan.asking.Asking.{Asking}
 abbrev pub request_in : (t : ℕ) → AllocationCreateDesc → RequestAt (Unit {0})
 request_in t d = record { memory_type = t; requested_dedicated = requests_dedicated d.allocation_scheme; request = request_of d; extra = tt }
 
--- what the answer says of blocks and pieces alone
-abbrev pub begun_in : {H : Type 0} → Result (Progress H) AllocationError → Result (Begun H) AllocationError
-begun_in (Ok (progress.Piece a)) = Ok (begun.Piece a.piece)
-begun_in (Ok (progress.Question q)) = Ok (begun.Question q.block)
-begun_in (Err e) = Err e
-
--- what it says beside that: the piece's memory type, and what is mapped
-abbrev pub Tells : {H : Type 0} → Setup → (t : ℕ) → Result (Progress H) AllocationError → Type 0
-Tells setup t (Ok (progress.Piece a)) = (a.memory_type ≡ t) × (a.mapped ≡ is_mapped setup.properties t)
-Tells setup t (Ok (progress.Question q)) = q.mapped ≡ is_mapped setup.properties t
-Tells setup t (Err e) = Unit {0}
-
--- the request is kept where its question is open
-abbrev pub asking_after : {H : Type 0} → Option Asking → AllocationCreateDesc → (is_second : Bool) → Result (Progress H) AllocationError → Option Asking
-asking_after before d is_second (Ok (progress.Piece a)) = before
-asking_after before d is_second (Ok (progress.Question q)) = Some (record { description = description_of d; is_second = is_second })
-asking_after before d is_second (Err e) = before
+-- what is kept of the request where its question is open
+abbrev pub asking_of : AllocationCreateDesc → (is_second : Bool) → Asking
+asking_of d is_second = record { description = description_of d; is_second = is_second; preference = None }
 
 -- the memory type that is asked after a refusal of the awaited block: none after the second attempt
 abbrev pub next_for : Setup → (is_second : Bool) → AllocationCreateDesc → Refusal → Option ℕ
@@ -51,20 +37,16 @@ next_for setup is_second d refusal = if is_second then None else next_type setup
 
 module _ {H : Type 0} where
   -- the request is above its heap: no block is looked at
-  pub record IsTooLarge (old : State H) (t : ℕ) (d : AllocationCreateDesc) (result : Result (Progress H) AllocationError) (new : State H) : Type 0 where
-    pub above : heap_size old.setup.properties t < d.requirements.size
-    pub refused : IsRefused out_of_memory old result new
+  abbrev pub IsTooLarge : State H → (t : ℕ) → AllocationCreateDesc → Result (Progress H) AllocationError → State H → Type 0
+  IsTooLarge old t d result new = IsAboveHeap old t (description_of d) result new
 
   -- the request is within its heap, and its memory type allocates a piece, asks, or refuses it
-  pub record IsWithinHeap (old : State H) (t : ℕ) (d : AllocationCreateDesc) (is_second : Bool) (result : Result (Progress H) AllocationError) (new : State H) : Type 0 where
-    pub below : d.requirements.size ≤ heap_size old.setup.properties t
-    pub begins : pools.Begins (request_in t d) old.requests (begun_in result) new.requests
-    pub tells : Tells old.setup t result
-    pub state : new ≡ record old { requests = new.requests; asking = asking_after old.asking d is_second result }
+  abbrev pub IsWithinHeap : State H → (t : ℕ) → AllocationCreateDesc → (is_second : Bool) → Result (Progress H) AllocationError → State H → Type 0
+  IsWithinHeap old t d is_second result new = BeginsWithinHeap old t (description_of d) (asking_of d is_second) result new
 
   -- an attempt at the t-th memory type, up to its question
   abbrev pub Tries : State H → (t : ℕ) → AllocationCreateDesc → (is_second : Bool) → Result (Progress H) AllocationError → State H → Type 0
-  Tries old t d is_second result new = IsTooLarge old t d result new ⊎ IsWithinHeap old t d is_second result new
+  Tries old t d is_second result new = Attempts old t (description_of d) (asking_of d is_second) result new
 
   -- ---- two attempts
 
@@ -123,10 +105,18 @@ module _ {H : Type 0} where
   abbrev pub Grants : State H → H → Result (Allocated H) AllocationError → State H → Type 0
   Grants old handle result new = GrantsIn old.requests.awaited old handle result new
 
+  -- what counts after a refusal of the block of this request: by location the second attempt, by flags the memory types that are left
+  abbrev pub GoesOnBy : Option Preference → (is_second : Bool) → State H → AllocationCreateDesc → Refusal → Result (Progress H) AllocationError → State H → Type 0
+  GoesOnBy None is_second old d refusal result new = Follows old d (next_for old.setup is_second d refusal) refusal result new
+  GoesOnBy (Some p) is_second old d refusal result new = FollowsDown p old (description_of d) refusal result new
+
+  abbrev pub GoesOnFor : Asking → State H → AllocationCreateDesc → Refusal → Result (Progress H) AllocationError → State H → Type 0
+  GoesOnFor r old d refusal result new = GoesOnBy r.preference r.is_second old d refusal result new
+
   -- the same of each description that says what the kept one does
   pub record GoesOn (r : Asking) (old : State H) (refusal : Refusal) (result : Result (Progress H) AllocationError) (new : State H) : Type 0 where
     pub kept : old.asking ≡ Some r
-    pub follows : (d : AllocationCreateDesc) → description_of d ≡ r.description → Follows (closed old) d (next_for old.setup r.is_second d refusal) refusal result new
+    pub follows : (d : AllocationCreateDesc) → description_of d ≡ r.description → GoesOnFor r (closed old) d refusal result new
 
   abbrev pub DeclinesIn : Option Awaited → State H → Refusal → Result (Progress H) AllocationError → State H → Type 0
   DeclinesIn None old refusal result new = IsRefused no_answer_awaited old result new

@@ -1,15 +1,19 @@
 -- What the other calls of Vulkan's machine return and leave.
-use Rattle.std.specs.Prelude.{◌≡◌, ℕ, Bool, Option, Some, None, Result, Ok, Err}
+use Rattle.std.specs.Prelude.{◌≡◌, ℕ, Bool, true, false, nat_lt, length, Option, Some, None, Result, Ok, Err, codes}
+use Rattle.std.specs.List.{slice_set}
 use Rattle.std.specs.Option.{option_map}
+use Rattle.gpu_values.specs.Refusal.{Refusal, internal}
 use Rattle.gpu_values.specs.declared.error.AllocationError.{AllocationError}
 use Rattle.gpu_core.specs.Blocks.{slots_at}
 use Rattle.gpu_block.specs.Block.{size_of, is_shared}
 use Rattle.gpu_core.specs.TypeState.{Slot, slot_at}
 use Rattle.gpu_core.specs.declared.piece.Piece.{Piece}
 use Rattle.gpu_pool.specs.Idle.{FreesIdle}
+use Rattle.gpu_pool.specs.RequestState.{answer_awaited}
+use Rattle.gpu_pool.specs.declared.requests.Awaited.{Awaited}
 use Rattle.gpu_vulkan.specs.Setup.{Setup}
 use Rattle.gpu_vulkan.specs.Types.{is_mapped}
-use Rattle.gpu_machine.specs.VulkanState.{State}
+use Rattle.gpu_machine.specs.VulkanState.{State, IsRefused}
 use Rattle.gpu_machine.specs.declared.vulkan.answer.LiveBlock.{LiveBlock}
 use Rattle.gpu_machine.specs.declared.vulkan.answer.MemoryBack.{MemoryBack}
 
@@ -44,3 +48,32 @@ live_block setup t (Some s) = Some (record { handle = s.handle; mapped = is_mapp
 -- the block in a slot of a memory type
 abbrev pub block_at : {H : Type 0} → State H → (t slot : ℕ) → Option (LiveBlock H)
 block_at s t slot = live_block s.setup t (slot_at (slots_at s.requests.slots t) slot)
+
+-- ---- limits of heaps
+
+abbrev pub no_such_heap : Refusal
+no_such_heap = internal (codes "No such heap.") None
+
+module _ {H : Type 0} where
+  abbrev pub SetsHeapLimitBy : (there : Bool) → State H → (heap : ℕ) → (limit : Option ℕ) → Result (Unit {0}) AllocationError → State H → Type 0
+  SetsHeapLimitBy false old heap limit result new = IsRefused no_such_heap old result new
+  SetsHeapLimitBy true old heap limit result new = (result ≡ Ok tt) × (new ≡ record old { limits = slice_set old.limits heap limit })
+
+  abbrev pub SetsHeapLimitIn : Option Awaited → State H → (heap : ℕ) → (limit : Option ℕ) → Result (Unit {0}) AllocationError → State H → Type 0
+  SetsHeapLimitIn (Some _) old heap limit result new = IsRefused answer_awaited old result new
+  SetsHeapLimitIn None old heap limit result new = SetsHeapLimitBy (nat_lt heap (length old.limits)) old heap limit result new
+
+  -- the heap has this limit from now on, where no question is open
+  abbrev pub SetsHeapLimit : State H → (heap : ℕ) → (limit : Option ℕ) → Result (Unit {0}) AllocationError → State H → Type 0
+  SetsHeapLimit old heap limit result new = SetsHeapLimitIn old.requests.awaited old heap limit result new
+
+-- ---- how many blocks there may be
+
+module _ {H : Type 0} where
+  abbrev pub SetsMostBlocksIn : Option Awaited → State H → (most : Option ℕ) → Result (Unit {0}) AllocationError → State H → Type 0
+  SetsMostBlocksIn (Some _) old most result new = IsRefused answer_awaited old result new
+  SetsMostBlocksIn None old most result new = (result ≡ Ok tt) × (new ≡ record old { most_blocks = most })
+
+  -- so many blocks there may be from now on, where no question is open
+  abbrev pub SetsMostBlocks : State H → (most : Option ℕ) → Result (Unit {0}) AllocationError → State H → Type 0
+  SetsMostBlocks old most result new = SetsMostBlocksIn old.requests.awaited old most result new

@@ -1,5 +1,5 @@
 -- A request that outlives its call.
-use Rattle.std.specs.Prelude.{ℕ, Bool, List, ◌<◌, IsTrue}
+use Rattle.std.specs.Prelude.{ℕ, ◌-◌, ◌^◌, Bool, List, ◌<◌, IsTrue}
 use Rattle.std.specs.Int.{is_power_of_two}
 use Rattle.gpu_values.specs.declared.memory_location.MemoryLocation.{MemoryLocation}
 use Rattle.gpu_device.specs.declared.vulkan.types.AllocationScheme.{AllocationScheme}
@@ -20,3 +20,7 @@ description_of d = record { name = d.name.now; requirements = d.requirements; lo
 -- the size isn't 0, and the alignment is a power of two
 abbrev pub IsWellFormed : Description → Type 0
 IsWellFormed k = (0 < k.requirements.size) × IsTrue (is_power_of_two k.requirements.alignment)
+
+-- the same request without the t-th memory type, which is one of its bits
+abbrev pub without : (t : ℕ) → Description → Description
+without t k = record k { requirements = record k.requirements { memory_type_bits = k.requirements.memory_type_bits - 2 ^ t } }

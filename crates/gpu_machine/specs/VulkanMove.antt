@@ -1,6 +1,6 @@
 -- What a second place for a piece of Vulkan's machine is, and what looking for it leaves.
 use Rattle.std.specs.Prelude.{◌≡◌, Bool, true, false, ℕ, Option, Some, None, Result}
-use Rattle.gpu_values.specs.Refusal.{Refusal, invalid_allocation_create_desc}
+use Rattle.gpu_values.specs.Refusal.{invalid_allocation_create_desc}
 use Rattle.gpu_values.specs.declared.error.AllocationError.{AllocationError}
 use Rattle.gpu_core.specs.declared.piece.Piece.{Piece}
 use Rattle.gpu_vulkan.specs.Describe.{request_of}

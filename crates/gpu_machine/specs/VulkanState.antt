@@ -1,5 +1,5 @@
 -- What callers see of Vulkan's machine.
-use Rattle.std.specs.Prelude.{◌≡◌, Option, Some, None, Result}
+use Rattle.std.specs.Prelude.{◌≡◌, ℕ, Option, Some, None, Result}
 use Rattle.gpu_values.specs.Refusal.{Refusal, refusal_in}
 use Rattle.gpu_values.specs.declared.error.AllocationError.{AllocationError}
 use Rattle.gpu_device.specs.Properties.{Properties}
@@ -8,11 +8,15 @@ use Rattle.gpu_pool.specs.declared.requests.Awaited.{Awaited}
 use Rattle.gpu_vulkan.specs.Setup.{Setup, setup_fault}
 use Rattle.gpu_vulkan.specs.Types.{kinds_of_device}
 use Rattle.gpu_machine.specs.VulkanDescription.{IsWellFormed}
+use Rattle.gpu_machine.specs.VulkanHeapLimit.{Limits, HasNoLimits}
 use Rattle.gpu_machine.specs.declared.vulkan.asking.Asking.{Asking}
 
--- what the machine is made with, the blocks with their pieces and budgets, and the request whose question is open
+-- what the machine is made with, the limits of heaps and how many blocks there may be, the blocks with their pieces and budgets, and the request
+-- whose question is open
 pub record State (H : Type 0) : Type 0 where
   pub setup : Setup
+  pub limits : Limits
+  pub most_blocks : Option ℕ
   pub requests : RequestState H
   pub asking : Option Asking
 
@@ -35,3 +39,8 @@ told_fault p = setup_fault 1 p
 -- the call is refused for this cause, and nothing changes
 abbrev pub IsRefused : {H A : Type 0} → Refusal → State H → Result A AllocationError → State H → Type 0
 IsRefused refusal old result new = (refusal_in result ≡ Some refusal) × (new ≡ old)
+
+-- neither heaps nor blocks are bounded
+pub record IsUnlimited {H : Type 0} (s : State H) : Type 0 where
+  pub heaps : HasNoLimits s.limits
+  pub blocks : s.most_blocks ≡ None

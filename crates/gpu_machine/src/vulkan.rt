@@ -2,11 +2,14 @@
 
 mod answer;
 mod asking;
+mod block_count;
 mod description;
+mod heap_limit;
 pub mod laws;
 mod machine;
 mod refusal;
 mod told;
 
 pub use answer::{Allocated, LiveBlock, MemoryBack, Progress, Question};
+pub use gpu_vulkan::Preference;
 pub use machine::Machine;

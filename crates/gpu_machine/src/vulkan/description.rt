@@ -1,11 +1,12 @@
 //! The description of a request that outlives its call.
 
-ghost use Rattle.std.specs.Prelude.{◌≡◌, IfOk};
-ghost use Rattle.gpu_machine.specs.VulkanDescription.{description_of};
+ghost use Rattle.std.specs.Prelude.{◌≡◌, ◌<◌, IfOk};
+ghost use Rattle.std.specs.Int.{bit_at};
+ghost use Rattle.gpu_machine.specs.VulkanDescription.{description_of, without};
 
 use gpu_device::vulkan::{AllocationScheme, MemoryRequirements};
 use gpu_values::MemoryLocation;
-use gpu_vulkan::AllocationCreateDesc;
+use gpu_vulkan::{AllocationCreateDesc, without_type};
 use std::alloc::{AllocError, Global};
 use std::marker::Model;
 
@@ -60,5 +61,25 @@ impl Description {
             linear: self.linear,
             allocation_scheme: self.scheme,
         }
+    }
+}
+
+/// The same request without the memory type at `index`, which is one of its bits.
+pub fn without<'a>(desc: &AllocationCreateDesc<'a>, index: usize) -> AllocationCreateDesc<'a>
+    requires is_set { bit_at desc.now.requirements.memory_type_bits index ≡ 1 }
+    ensures left { description_of result ≡ without index (description_of desc.now) }
+    ensures fewer { result.requirements.memory_type_bits
+        < desc.now.requirements.memory_type_bits }
+{
+    AllocationCreateDesc {
+        name: desc.name,
+        requirements: MemoryRequirements {
+            size: desc.requirements.size,
+            alignment: desc.requirements.alignment,
+            memory_type_bits: without_type(desc.requirements.memory_type_bits, index),
+        },
+        location: desc.location,
+        linear: desc.linear,
+        allocation_scheme: desc.allocation_scheme,
     }
 }

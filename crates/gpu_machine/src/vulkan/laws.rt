@@ -17,18 +17,19 @@ ghost use Rattle.gpu_vulkan.specs.declared.allocation.Allocation.{Allocation};
 ghost use Rattle.gpu_vulkan.specs.declared.describe.AllocationCreateDesc.{AllocationCreateDesc};
 ghost use Rattle.gpu_machine.specs.VulkanCalls.{Frees, memory_in};
 ghost use Rattle.gpu_machine.specs.VulkanRun.{Allocated, Runs, Returns, State};
-ghost use Rattle.gpu_machine.specs.VulkanState.{IsOver};
+ghost use Rattle.gpu_machine.specs.VulkanState.{IsOver, IsUnlimited};
 ghost use Rattle.gpu_machine.specs.declared.vulkan.answer.MemoryBack.{MemoryBack};
 
 use gpu_device::vulkan::VulkanDevice;
 
-/// Whoever begins a request, asks a device the questions, and tells the machine the answers, has what the Vulkan allocator's `allocate`
-/// returns over that device, and leaves its blocks and the device as `allocate` does; nothing else of the machine changes, and no
+/// Where neither heaps nor blocks are bounded, whoever begins a request, asks a device the questions, and tells the machine the answers, has what the Vulkan
+/// allocator's `allocate` returns over that device, and leaves its blocks and the device as `allocate` does; nothing else of the machine changes, and no
 /// question is left open.
 pub fn runs_are_allocations<D: VulkanDevice>()
     ensures { (questions : ℕ) (old new : State) (d : AllocationCreateDesc) (device after : D)
         (told : Result Allocated AllocationError) (result : Result Allocation AllocationError)
-        → IsOver old.setup old.requests → old.requests.awaited ≡ None → old.asking ≡ None
+        → IsOver old.setup old.requests → IsUnlimited old → old.requests.awaited ≡ None
+        → old.asking ≡ None
         → Runs D.VulkanDevice d questions old device told new after
         → Returns old.setup d told result
         → Allocates D.VulkanDevice old.setup old.requests.budgets d old.requests.slots device result
@@ -39,11 +40,12 @@ pub fn runs_are_allocations<D: VulkanDevice>()
         }) }
 {}
 
-/// A request asks at most two questions.
+/// There a request by a location asks at most two questions.
 pub fn two_questions_suffice<D: VulkanDevice>()
     ensures { (questions : ℕ) (old new : State) (d : AllocationCreateDesc) (device after : D)
         (told : Result Allocated AllocationError)
-        → IsOver old.setup old.requests → old.requests.awaited ≡ None → old.asking ≡ None
+        → IsOver old.setup old.requests → IsUnlimited old → old.requests.awaited ≡ None
+        → old.asking ≡ None
         → Runs D.VulkanDevice d questions old device told new after
         → Runs D.VulkanDevice d 2 old device told new after }
 {}

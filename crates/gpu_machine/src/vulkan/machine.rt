@@ -1,9 +1,9 @@
 //! Vulkan's machine: blocks of device memory by memory type, and the calls that share them out.
 
-ghost use Rattle.std.specs.Prelude.{◌≡◌, ◌≢◌, ℕ, ◌↔◌, ◌<◌, [], All, None, IfOk, IfErr, OnOk, IsSome, IsTrue, length};
+ghost use Rattle.std.specs.Prelude.{◌≡◌, ◌≢◌, ℕ, ◌↔◌, ◌<◌, [], All, Some, None, IfOk, IfErr, OnOk, OnErr, IsSome, IsTrue, length};
 ghost use Rattle.std.specs.Int.{is_power_of_two};
 ghost use Rattle.std.specs.Option.{unwrap_or, option_map};
-ghost use Rattle.gpu_values.specs.Refusal.{refusal_of, host_out_of_memory};
+ghost use Rattle.gpu_values.specs.Refusal.{refusal_of, refusal_in, host_out_of_memory};
 ghost use Rattle.gpu_core.specs.declared.piece.Piece.{Piece};
 ghost use Rattle.gpu_core.specs.Apart.{IsInside, AreDistinct, SharesNoByte, KeepsPages};
 ghost use Rattle.gpu_core.specs.Blocks.{slots_at, total_capacity, BlocksWellFormed, EachKeepsOneEmptyAtMost};
@@ -20,23 +20,31 @@ ghost use Rattle.gpu_vulkan.specs.BlockAnswer.{memory_refusal, map_refusal};
 ghost use Rattle.gpu_vulkan.specs.Choice.{best_type};
 ghost use Rattle.gpu_vulkan.specs.Setup.{properties_told};
 ghost use Rattle.gpu_vulkan.specs.Types.{is_mapped, kinds_of_device};
-ghost use Rattle.gpu_machine.specs.VulkanState.{IsOver, told_fault};
-ghost use Rattle.gpu_machine.specs.VulkanBegin.{Tries, Follows, MakesAttempts, Begins, Grants, Declines};
-ghost use Rattle.gpu_machine.specs.VulkanCalls.{memory_back, live_block, block_at, Frees};
+ghost use Rattle.gpu_machine.specs.VulkanState.{IsOver, IsUnlimited, told_fault};
+ghost use Rattle.gpu_machine.specs.VulkanAsking.{asking_for};
+ghost use Rattle.gpu_machine.specs.VulkanAttempt.{Attempts, Places};
+ghost use Rattle.gpu_machine.specs.VulkanBegin.{Tries, Follows, MakesAttempts, Begins, Grants, Declines, GoesOnFor};
+ghost use Rattle.gpu_machine.specs.VulkanByFlags.{AttemptsBy, BeginsDown, GoesDown};
+ghost use Rattle.gpu_machine.specs.VulkanDescription.{description_of, without, IsWellFormed};
+ghost use Rattle.gpu_machine.specs.VulkanCalls.{memory_back, live_block, block_at, Frees, SetsHeapLimit, SetsMostBlocks};
+ghost use Rattle.gpu_machine.specs.VulkanHeapLimit.{limit_at};
 ghost use Rattle.gpu_machine.specs.VulkanLive.{Gives, GivesAgain, GivesAwaited};
 ghost use Rattle.gpu_machine.specs.VulkanMove.{Proposes};
 
 use crate::vulkan::answer::{Allocated, LiveBlock, MemoryBack, Progress, Question};
-use crate::vulkan::asking::Asking;
-use crate::vulkan::refusal::refusal_of_mapping;
+use crate::vulkan::asking::{Asking, Rest};
+use crate::vulkan::block_count::has_most;
+use crate::vulkan::description::without;
+use crate::vulkan::heap_limit::{limit_at, no_limits, passes_limit};
+use crate::vulkan::refusal::{lacks_room, no_such_heap, refusal_of_mapping};
 use crate::vulkan::told::fault_of;
 use gpu_core::{AllLeaks, MemoryType, MemoryTypes, Piece};
 use gpu_device::vulkan::{MemoryHeap, MemoryPropertyFlags, MemoryTypeInfo};
 use gpu_pool::{Begun, Requests, answer_awaited, no_answer_awaited};
 use gpu_values::{AllocationError, AllocatorReport, MemoryLocation, Result};
 use gpu_vulkan::{
-    AllocationCreateDesc, Settings, Setup, best_type, is_again, next_type, refusal_of_memory,
-    request_of, told_parts,
+    AllocationCreateDesc, Preference, Settings, Setup, best_type, cheapest_type, is_again,
+    next_type, refusal_of_memory, request_of, told_parts,
 };
 use std::alloc::{AllocError, Global};
 use std::marker::Model;
@@ -63,6 +71,21 @@ fn memory_back<H: Copy + Eq>(setup: &Setup, index: usize, went: Option<H>) -> Op
             handle,
             mapped: is_mapped(setup, index),
         }),
+    }
+}
+
+/// The block that a request needs isn't asked for, for this cause: nothing is left of the request.
+fn withdrawn<H: Copy + Eq>(
+    requests: &mut Requests<H>,
+    error: AllocationError,
+) -> Result<Progress<H>>
+    requires { IsSome requests.old.awaited }
+    ensures refused { refusal_in result ≡ Some (refusal_of error) }
+    ensures closed { requests.new ≡ record requests.old { awaited = None } }
+{
+    match requests.declined() {
+        Err(late) => Err(late),
+        Ok(()) => Err(error),
     }
 }
 
@@ -96,6 +119,8 @@ fn live_block<H: Copy + Eq>(
 pub struct Machine<H: Copy + Eq> {
     alloc: Global,
     setup: Setup,
+    limits: Vec<Option<u64>>,
+    most_blocks: Option<usize>,
     requests: Requests<H>,
     asking: Option<Asking>,
 }
@@ -105,14 +130,20 @@ impl<H: Copy + Eq> Model for Machine<H> {
 
     ghost Value = { State H };
 
-    ghost view = { λ m. record { setup = m.setup; requests = m.requests; asking = m.asking } };
+    ghost view = { λ m. record {
+      setup = m.setup;
+      limits = m.limits.items;
+      most_blocks = m.most_blocks;
+      requests = m.requests;
+      asking = m.asking;
+    } };
 
     ghost invariant = { λ m. IsOver m.setup m.requests
         × KeepsRequest m.requests.awaited m.asking };
 }
 
 impl<H: Copy + Eq> Machine<H> {
-    /// A machine without blocks and without budgets, over a device that has these memory types and heaps, and this
+    /// A machine without blocks, budgets and limits, over a device that has these memory types and heaps, and this
     /// `bufferImageGranularity`. The errors: `InvalidAllocatorCreateDesc` for the first that holds of a granularity that isn't
     /// a power of two, more than 32 memory types, and a memory type in a heap that isn't there; else `HostOutOfMemory`.
     pub fn new(
@@ -133,6 +164,8 @@ impl<H: Copy + Eq> Machine<H> {
         ensures budgets { IfOk result (λ m. All (λ b. b ≡ None) m.requests.budgets) }
         ensures bounds { IfOk result (λ m. length m.requests.budgets
             ≡ length memory_types.items) }
+        ensures unlimited { IfOk result IsUnlimited }
+        ensures heaps { IfOk result (λ m. length m.limits ≡ length heaps.items) }
         ensures closed { IfOk result (λ m. (m.requests.awaited ≡ None) × (m.asking ≡ None)) }
         ensures valid { OnOk result (told_fault
             (properties_told memory_types.items heaps.items granularity) ≡ None) }
@@ -145,11 +178,16 @@ impl<H: Copy + Eq> Machine<H> {
             return Err(error);
         }
         let sizes = settings.sizes;
+        let Ok(limits) = no_limits(alloc, heaps.len()) else {
+            return Err(AllocationError::HostOutOfMemory);
+        };
         match told_parts(alloc, memory_types, heaps, granularity, settings) {
             Err(AllocError) => Err(AllocationError::HostOutOfMemory),
             Ok((setup, types)) => Ok(Machine {
                 alloc,
                 setup,
+                limits,
+                most_blocks: None,
                 requests: Requests::new(sizes, types),
                 asking: None,
             }),
@@ -191,6 +229,33 @@ impl<H: Copy + Eq> Machine<H> {
             None => Err(AllocationError::NoCompatibleMemoryTypeFound),
             Some(index) => self.make_attempts(desc, index),
         }
+    }
+
+    /// Begins a request whose memory is chosen by flags; the description's location isn't looked at. Memory types that have all that
+    /// is required are tried from the cheapest on, while one has no room: above its heap, its budget, or refused by the driver for
+    /// lack of memory. The errors are `InvalidAllocationCreateDesc`, `NoCompatibleMemoryTypeFound` where none serves, else why the last
+    /// one that was tried was refused: `HostOutOfMemory` is final. `Internal` while another question is open. A refusal changes nothing.
+    pub fn begin_by_flags(
+        &mut self,
+        desc: &AllocationCreateDesc,
+        preference: &Preference,
+    ) -> Result<Progress<H>>
+        ensures begins { BeginsDown preference.now self.old desc.now result self.new }
+        ensures gives { Gives H.eq desc.now.requirements.alignment self.old.requests.slots
+            self.new.requests.slots result }
+        ensures keeps { StayLive H.eq self.old.requests.slots self.new.requests.slots }
+    {
+        if self.awaits_answer() {
+            return Err(answer_awaited());
+        }
+        if desc.requirements.size == 0 || !desc.requirements.alignment.is_power_of_two() {
+            return Err(AllocationError::InvalidAllocationCreateDesc);
+        }
+        self.go_down(
+            desc,
+            preference,
+            AllocationError::NoCompatibleMemoryTypeFound,
+        )
     }
 
     /// The driver granted the memory that was asked for, and mapped it where it was to be mapped: it is the block that was awaited,
@@ -311,6 +376,49 @@ impl<H: Copy + Eq> Machine<H> {
         self.memory_types().budget(index)
     }
 
+    /// Bounds the sum of the sizes of the blocks that lie in a heap, of whichever memory type, in bytes; `None` takes the bound away. A
+    /// limit below the present sum gives no block back; a request that needs a block above it is refused with `BudgetExceeded`, as by a
+    /// budget. It takes no host memory. `Internal` where there is no such heap, or a question is open; then nothing changes.
+    pub fn set_heap_limit(&mut self, heap: usize, limit: Option<u64>) -> Result<()>
+        ensures { SetsHeapLimit self.old heap limit result self.new }
+    {
+        if self.awaits_answer() {
+            return Err(answer_awaited());
+        }
+        if heap >= self.limits.len() {
+            return Err(no_such_heap());
+        }
+        self.limits[heap] = limit;
+        Ok(())
+    }
+
+    /// The limit of a heap, in bytes; `None` where it has none, or isn't there.
+    pub fn heap_limit(&self, heap: usize) -> Option<u64>
+        ensures { result ≡ limit_at self.now.limits heap }
+    {
+        limit_at(&self.limits, heap)
+    }
+
+    /// Bounds how many blocks there may be, of all memory types together (`maxMemoryAllocationCount`); `None` takes the bound away. A bound
+    /// below their present number gives no block back; a request that needs one more is refused with `BudgetExceeded`. It takes no host
+    /// memory. `Internal` while a question is open; then nothing changes.
+    pub fn set_most_blocks(&mut self, most: Option<usize>) -> Result<()>
+        ensures { SetsMostBlocks self.old most result self.new }
+    {
+        if self.awaits_answer() {
+            return Err(answer_awaited());
+        }
+        self.most_blocks = most;
+        Ok(())
+    }
+
+    /// How many blocks there may be, of all memory types together; `None` where that isn't bounded.
+    pub fn most_blocks(&self) -> Option<usize>
+        ensures { result ≡ self.now.most_blocks }
+    {
+        self.most_blocks
+    }
+
     /// The sum of the sizes of the live blocks, in bytes. A block that is awaited isn't one.
     pub fn capacity(&self) -> u64
         ensures { result ≡ total_capacity self.now.requests.slots }
@@ -396,11 +504,75 @@ impl<H: Copy + Eq> Machine<H> {
         match self.requests.declined() {
             Err(late) => Err(late),
             Ok(()) => {
-                if asking.is_second {
-                    return Err(error);
-                }
                 let desc = asking.description.lend();
-                self.follow(&desc, error)
+                self.go_on(&desc, &asking, error)
+            }
+        }
+    }
+
+    // What is left of a request whose block was refused.
+    fn go_on(
+        &mut self,
+        desc: &AllocationCreateDesc,
+        asking: &Asking,
+        error: AllocationError,
+    ) -> Result<Progress<H>>
+        requires idle { self.old.requests.awaited ≡ None }
+        requires sized { 0 < desc.now.requirements.size }
+        requires aligned { IsTrue (is_power_of_two desc.now.requirements.alignment) }
+        ensures goes_on { GoesOnFor asking.now self.old desc.now (refusal_of error) result
+            self.new }
+        ensures gives { Gives H.eq desc.now.requirements.alignment self.old.requests.slots
+            self.new.requests.slots result }
+        ensures keeps { StayLive H.eq self.old.requests.slots self.new.requests.slots }
+    {
+        match &asking.preference {
+            Some(preference) => {
+                if lacks_room(&error) {
+                    self.go_down(desc, preference, error)
+                } else {
+                    Err(error)
+                }
+            }
+            None => {
+                if asking.is_second {
+                    Err(error)
+                } else {
+                    self.follow(desc, error)
+                }
+            }
+        }
+    }
+
+    // The cheapest of the memory types that are left, and while one has no room the others. Before them the last was refused so.
+    fn go_down(
+        &mut self,
+        desc: &AllocationCreateDesc,
+        preference: &Preference,
+        last: AllocationError,
+    ) -> Result<Progress<H>>
+        requires idle { self.old.requests.awaited ≡ None }
+        requires sized { 0 < desc.now.requirements.size }
+        requires aligned { IsTrue (is_power_of_two desc.now.requirements.alignment) }
+        ensures goes_down { GoesDown preference.now self.old result self.new
+            (description_of desc.now) (refusal_of last) }
+        ensures gives { Gives H.eq desc.now.requirements.alignment self.old.requests.slots
+            self.new.requests.slots result }
+        ensures keeps { StayLive H.eq self.old.requests.slots self.new.requests.slots }
+    {
+        let allowed = desc.requirements.memory_type_bits;
+        let Some(index) = cheapest_type(self.setup.memory_types(), allowed, preference) else {
+            return Err(last);
+        };
+        let left = without(desc, index);
+        match self.attempt_by_flags(desc, index, preference, &left) {
+            Ok(progress) => Ok(progress),
+            Err(error) => {
+                if lacks_room(&error) {
+                    self.go_down(&left, preference, error)
+                } else {
+                    Err(error)
+                }
             }
         }
     }
@@ -416,7 +588,7 @@ impl<H: Copy + Eq> Machine<H> {
             self.new.requests.slots result }
         ensures keeps { StayLive H.eq self.old.requests.slots self.new.requests.slots }
     {
-        match self.attempt(desc, index, false) {
+        match self.attempt_for_location(desc, index, false) {
             Ok(progress) => Ok(progress),
             Err(error) => self.follow(desc, error),
         }
@@ -436,12 +608,12 @@ impl<H: Copy + Eq> Machine<H> {
     {
         match next_type(&self.setup, desc, &error) {
             None => Err(error),
-            Some(next) => self.attempt(desc, next, true),
+            Some(next) => self.attempt_for_location(desc, next, true),
         }
     }
 
-    // One attempt at the memory type at `index`, up to its question.
-    fn attempt(
+    // A location's attempt at the memory type at `index`, up to its question.
+    fn attempt_for_location(
         &mut self,
         desc: &AllocationCreateDesc,
         index: usize,
@@ -454,6 +626,91 @@ impl<H: Copy + Eq> Machine<H> {
         ensures tries { Tries self.old index desc.now is_second result self.new }
         ensures gives { Gives H.eq desc.now.requirements.alignment self.old.requests.slots
             self.new.requests.slots result }
+        ensures keeps { StayLive H.eq self.old.requests.slots self.new.requests.slots }
+    {
+        let rest = Rest {
+            desc,
+            is_second,
+            preference: None,
+        };
+        self.attempt(desc, index, &rest)
+    }
+
+    // An attempt by flags at the memory type at `index`, up to its question; `left` is the request for the others.
+    fn attempt_by_flags(
+        &mut self,
+        desc: &AllocationCreateDesc,
+        index: usize,
+        preference: &Preference,
+        left: &AllocationCreateDesc,
+    ) -> Result<Progress<H>>
+        requires idle { self.old.requests.awaited ≡ None }
+        requires sized { 0 < desc.now.requirements.size }
+        requires aligned { IsTrue (is_power_of_two desc.now.requirements.alignment) }
+        requires there { index < length self.old.setup.properties.types }
+        requires left { description_of left.now ≡ without index (description_of desc.now) }
+        ensures attempts { AttemptsBy preference.now self.old index (description_of desc.now) result
+            self.new }
+        ensures gives { Gives H.eq desc.now.requirements.alignment self.old.requests.slots
+            self.new.requests.slots result }
+        ensures refused { OnErr result (self.new ≡ self.old) }
+        ensures keeps { StayLive H.eq self.old.requests.slots self.new.requests.slots }
+    {
+        if preference.never_allocate {
+            return self.place(desc, index);
+        }
+        let rest = Rest {
+            desc: left,
+            is_second: false,
+            preference: Some(*preference),
+        };
+        self.attempt(desc, index, &rest)
+    }
+
+    // A piece in a block of the memory type at `index` that is there; no other is asked for.
+    fn place(&mut self, desc: &AllocationCreateDesc, index: usize) -> Result<Progress<H>>
+        requires idle { self.old.requests.awaited ≡ None }
+        requires sized { 0 < desc.now.requirements.size }
+        requires aligned { IsTrue (is_power_of_two desc.now.requirements.alignment) }
+        requires there { index < length self.old.setup.properties.types }
+        ensures places { Places self.old index (description_of desc.now) result self.new }
+        ensures gives { Gives H.eq desc.now.requirements.alignment self.old.requests.slots
+            self.new.requests.slots result }
+        ensures refused { OnErr result (self.new ≡ self.old) }
+        ensures keeps { StayLive H.eq self.old.requests.slots self.new.requests.slots }
+    {
+        let heap = self.setup.heap_size(index);
+        if desc.requirements.size > heap {
+            return Err(AllocationError::OutOfMemory);
+        }
+        match self.requests.begin(index, &request_of(desc)) {
+            Err(error) => Err(error),
+            Ok(Begun::Piece(piece)) => Ok(Progress::Piece(Allocated {
+                memory_type: index,
+                piece,
+                mapped: is_mapped(&self.setup, index),
+            })),
+            Ok(Begun::Question(_)) => withdrawn(&mut self.requests, AllocationError::OutOfMemory),
+        }
+    }
+
+    // One attempt at the memory type at `index`, up to its question, for which the rest of the request is kept.
+    fn attempt(
+        &mut self,
+        desc: &AllocationCreateDesc,
+        index: usize,
+        rest: &Rest,
+    ) -> Result<Progress<H>>
+        requires idle { self.old.requests.awaited ≡ None }
+        requires sized { 0 < desc.now.requirements.size }
+        requires aligned { IsTrue (is_power_of_two desc.now.requirements.alignment) }
+        requires there { index < length self.old.setup.properties.types }
+        requires kept { IsWellFormed (description_of rest.now.desc.now) }
+        ensures attempts { Attempts self.old index (description_of desc.now) (asking_for rest.now)
+            result self.new }
+        ensures gives { Gives H.eq desc.now.requirements.alignment self.old.requests.slots
+            self.new.requests.slots result }
+        ensures refused { OnErr result (self.new ≡ self.old) }
         ensures keeps { StayLive H.eq self.old.requests.slots self.new.requests.slots }
     {
         if desc.requirements.size > self.setup.heap_size(index) {
@@ -470,11 +727,15 @@ impl<H: Copy + Eq> Machine<H> {
             }
             Ok(Begun::Question(block)) => block,
         };
-        let Ok(asking) = Asking::of(self.alloc, desc, is_second) else {
-            return match self.requests.declined() {
-                Err(error) => Err(error),
-                Ok(()) => Err(AllocationError::HostOutOfMemory),
-            };
+        let types = self.requests.memory_types();
+        let infos = self.setup.memory_types();
+        if has_most(types, self.most_blocks)
+            || passes_limit(types, infos, &self.limits, index, block.size)
+        {
+            return withdrawn(&mut self.requests, AllocationError::BudgetExceeded);
+        }
+        let Ok(asking) = Asking::of(self.alloc, rest) else {
+            return withdrawn(&mut self.requests, AllocationError::HostOutOfMemory);
         };
         self.asking = Some(asking);
         Ok(Progress::Question(Question {

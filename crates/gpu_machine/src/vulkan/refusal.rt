@@ -1,9 +1,11 @@
-//! Why a driver's mapping of memory was refused.
+//! Refusals: of a driver's mapping and of a heap that isn't there; and those after which another memory type is tried.
 
 ghost use Rattle.std.specs.Prelude.{◌≡◌};
 ghost use Rattle.std.specs.Option.{option_map};
 ghost use Rattle.gpu_values.specs.Refusal.{refusal_of};
 ghost use Rattle.gpu_vulkan.specs.BlockAnswer.{map_refusal};
+ghost use Rattle.gpu_machine.specs.VulkanByFlags.{lacks_room};
+ghost use Rattle.gpu_machine.specs.VulkanCalls.{no_such_heap};
 
 use gpu_values::{AllocationError, Fault};
 
@@ -21,4 +23,24 @@ pub fn refusal_of_mapping(code: Option<i32>) -> AllocationError
             code: Some(i64::from(code)),
         }),
     }
+}
+
+/// Whether a memory type, its budget or its heap has no room: another memory type may have.
+pub fn lacks_room(error: &AllocationError) -> bool
+    ensures { result ≡ lacks_room (refusal_of error.now) }
+{
+    matches!(
+        error,
+        AllocationError::OutOfMemory | AllocationError::BudgetExceeded
+    )
+}
+
+/// No heap has that index.
+pub fn no_such_heap() -> AllocationError
+    ensures { refusal_of result ≡ no_such_heap }
+{
+    AllocationError::Internal(Fault {
+        text: "No such heap.",
+        code: None,
+    })
 }
