@@ -752,6 +752,10 @@ PILHANGKO_NODISCARD PILHANGKO_API pilhangko_status PILHANGKO_CALL pilhangko_raw_
     pilhangko_allocator *allocator, size_t heap, bool has_limit, uint64_t bytes);
 PILHANGKO_NODISCARD PILHANGKO_API pilhangko_status PILHANGKO_CALL pilhangko_raw_allocator_heap_limit(
     const pilhangko_allocator *allocator, size_t heap, pilhangko_budget *limit);
+PILHANGKO_NODISCARD PILHANGKO_API pilhangko_status PILHANGKO_CALL pilhangko_raw_allocator_set_most_blocks(
+    pilhangko_allocator *allocator, bool has_most, size_t count);
+PILHANGKO_NODISCARD PILHANGKO_API pilhangko_status PILHANGKO_CALL pilhangko_raw_allocator_most_blocks(
+    const pilhangko_allocator *allocator, bool *has_most, size_t *count);
 PILHANGKO_NODISCARD PILHANGKO_API pilhangko_status PILHANGKO_CALL pilhangko_raw_allocator_capacity(
     const pilhangko_allocator *allocator, uint64_t *bytes);
 PILHANGKO_NODISCARD PILHANGKO_API pilhangko_status PILHANGKO_CALL pilhangko_raw_allocator_best_type(
@@ -1314,7 +1318,8 @@ PILHANGKO_NODISCARD static inline pilhangko_status pilhangko_allocator_create(pi
 
 /* Begins a request: it leads to a piece, or to a question, which stays open until the answer is told.
  * NO_HANDLE. AWAITS_ANSWER. INVALID: the request or the name. NO_MEMORY_TYPE. OUT_OF_MEMORY: the request is above its heap.
- * HOST_OUT_OF_MEMORY. And where a block is needed: OUT_OF_MEMORY: the sum of the blocks' sizes would pass 2^64 - 1. BUDGET_EXCEEDED. (From
+ * HOST_OUT_OF_MEMORY. And where a block is needed: OUT_OF_MEMORY: the sum of the blocks' sizes would pass 2^64 - 1. BUDGET_EXCEEDED: its memory
+ * type's, then its heap's limit, or the most blocks. (From
  * the first OUT_OF_MEMORY on, of the one attempt that counts: an upload's second one, where it has one.) */
 PILHANGKO_NODISCARD static inline pilhangko_status pilhangko_allocator_begin(pilhangko_allocator *allocator,
     const pilhangko_allocator_request *request, const char *name, pilhangko_allocator_progress *progress) {
@@ -1326,8 +1331,9 @@ PILHANGKO_NODISCARD static inline pilhangko_status pilhangko_allocator_begin(pil
  * from the cheapest on, while one has no room: it is above its heap, its budget, or the driver has refused it for lack of memory. Once the driver
  * has refused, refused and mapping_refused go on so.
  * NO_HANDLE. AWAITS_ANSWER. INVALID: the request or the name. NO_MEMORY_TYPE: none serves. Else why the last one that was tried was refused:
- * OUT_OF_MEMORY: the request is above its heap. HOST_OUT_OF_MEMORY: no other one is tried. And where a block is needed: OUT_OF_MEMORY: none is to be
- * asked for, or the sum of the blocks' sizes would pass 2^64 - 1. BUDGET_EXCEEDED. */
+ * OUT_OF_MEMORY: the request is above its heap. HOST_OUT_OF_MEMORY: no other one is tried. And where a block is needed: OUT_OF_MEMORY: the sum of the
+ * blocks' sizes would pass 2^64 - 1. BUDGET_EXCEEDED: its memory type's. OUT_OF_MEMORY: none is to be asked for. BUDGET_EXCEEDED: its heap's
+ * limit, or the most blocks. */
 PILHANGKO_NODISCARD static inline pilhangko_status pilhangko_allocator_begin_by_flags(pilhangko_allocator *allocator,
     const pilhangko_allocator_request *request, const char *name, const pilhangko_preference *preference,
     pilhangko_allocator_progress *progress) {
@@ -1434,6 +1440,23 @@ PILHANGKO_NODISCARD static inline pilhangko_status pilhangko_allocator_heap_limi
     const pilhangko_allocator *allocator, size_t heap, pilhangko_budget *limit) {
     if (!allocator || !limit) return PILHANGKO_NULL_POINTER;
     return pilhangko_raw_allocator_heap_limit(allocator, heap, limit);
+}
+
+/* Bounds how many blocks there may be, of all memory types together (maxMemoryAllocationCount), or takes the bound away. A bound below their present
+ * number gives no block back: requests that need one more are refused (BUDGET_EXCEEDED).
+ * NO_HANDLE. AWAITS_ANSWER. */
+PILHANGKO_NODISCARD static inline pilhangko_status pilhangko_allocator_set_most_blocks(
+    pilhangko_allocator *allocator, bool has_most, size_t count) {
+    if (!allocator) return PILHANGKO_NULL_POINTER;
+    return pilhangko_raw_allocator_set_most_blocks(allocator, has_most, count);
+}
+
+/* Whether that is bounded, and by how many, 0 where it isn't.
+ * NO_HANDLE. */
+PILHANGKO_NODISCARD static inline pilhangko_status pilhangko_allocator_most_blocks(
+    const pilhangko_allocator *allocator, bool *has_most, size_t *count) {
+    if (!allocator || !has_most || !count) return PILHANGKO_NULL_POINTER;
+    return pilhangko_raw_allocator_most_blocks(allocator, has_most, count);
 }
 
 /* The sum of the sizes of the live blocks. A block that is awaited isn't one.

@@ -21,6 +21,8 @@ struct allocator_account {
     size_t heap_count;
     bool has_limit[ACCOUNT_HEAPS];
     uint64_t limit[ACCOUNT_HEAPS]; /* of each heap's blocks, where it has one */
+    bool has_most;
+    size_t most_blocks; /* of all memory types, where that is bounded */
     struct type_account types[ACCOUNT_TYPES];
     /* the request that is under way, or was last */
     pilhangko_allocator_request request;
@@ -49,7 +51,14 @@ static inline bool is_above_limit(const struct allocator_account *a, size_t type
     return sum > a->limit[heap];
 }
 
-/* Allocates in a memory type, where the request is within its heap and a block that it needs within that heap's limit. */
+static inline size_t block_count(const struct allocator_account *a) {
+    size_t count = 0;
+    for (size_t i = 0; i < a->type_count; i++)
+        for (size_t slot = 0; slot < a->types[i].slot_count; slot++) count += a->types[i].slots[slot].exists;
+    return count;
+}
+
+/* Allocates in a memory type, where the request is within its heap, and a block that it needs within that heap's limit and not one too many. */
 static inline pilhangko_status allocate_in_type(struct allocator_account *a, size_t type, const pilhangko_memory_request *request, bool asks) {
     pilhangko_status status;
     a->type = type;
@@ -57,6 +66,7 @@ static inline pilhangko_status allocate_in_type(struct allocator_account *a, siz
     status = type_allocate(&a->types[type], request, a->name, allocator_capacity(a), &a->placed);
     if (status != PILHANGKO_OK || !a->placed.needs_block) return status;
     if (!asks) return PILHANGKO_OUT_OF_MEMORY;
+    if (a->has_most && block_count(a) >= a->most_blocks) return PILHANGKO_BUDGET_EXCEEDED;
     return is_above_limit(a, type) ? PILHANGKO_BUDGET_EXCEEDED : PILHANGKO_OK;
 }
 

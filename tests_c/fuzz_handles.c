@@ -360,9 +360,12 @@ static pilhangko_status allocator_status(bool changes, pilhangko_status status) 
     return !has_allocator ? PILHANGKO_NO_HANDLE : changes && account.awaits_answer ? PILHANGKO_AWAITS_ANSWER : status;
 }
 
-static void begins_account(
-    const pilhangko_device_memory_type *types, const pilhangko_device_heap *heaps, size_t count, const pilhangko_allocator_settings *s) {
+static void begins_account(const pilhangko_device_memory_type *types, const pilhangko_device_heap *heaps, size_t count, size_t heap_count,
+    const pilhangko_allocator_settings *s) {
     has_allocator = true;
+    account.heap_count = heap_count;
+    account.has_most = false;
+    for (size_t i = 0; i < ACCOUNT_HEAPS; i++) account.has_limit[i] = false;
     account.type_count = count;
     account.awaits_answer = false;
     for (size_t i = 0; i < count; i++) {
@@ -371,6 +374,7 @@ static void begins_account(
         const uint64_t last = block_size_near(is_host ? s->largest_host_block_size : s->largest_device_block_size);
         account.flags[i] = types[i].flags;
         account.heap_size[i] = heaps[types[i].heap].size;
+        account.heap[i] = types[i].heap;
         type_begin(&account.types[i], first, last < first ? first : last, s->page_size);
     }
 }
@@ -391,7 +395,7 @@ static void creates_allocator(void) {
     }
     const pilhangko_status status = has_allocator ? PILHANGKO_IN_USE : valid;
     IS(pilhangko_allocator_create(&allocator, types, count, heaps, heap_count, &s), status);
-    if (status == PILHANGKO_OK) begins_account(types, heaps, count, &s);
+    if (status == PILHANGKO_OK) begins_account(types, heaps, count, heap_count, &s);
 }
 
 static bool is_mapped(size_t type) {
@@ -425,7 +429,7 @@ static bool has_room(void) {
     return true;
 }
 
-static void begins_request(void) {
+static pilhangko_allocator_request next_request(void) {
     pilhangko_allocator_request r;
     r.size = next_size();
     r.alignment = next_alignment();
@@ -434,6 +438,17 @@ static void begins_request(void) {
     r.location = 1 + next_small(5);
     r.scheme = next_byte() % 4 ? PILHANGKO_SCHEME_MANAGED : next_small(5);
     r.resource = next_number();
+    return r;
+}
+
+/* What a request begins with, or leaves untouched. */
+static void is_begun(const pilhangko_allocator_progress *p, pilhangko_status status) {
+    if (status == PILHANGKO_OK) is_progress(p, status);
+    else CHECK(p->kind == UINT32_MAX && p->status == UINT32_MAX && p->question.size == UINT64_MAX);
+}
+
+static void begins_request(void) {
+    const pilhangko_allocator_request r = next_request();
     const char *name = next_name();
     pilhangko_allocator_progress p;
     if (!has_room()) return;
@@ -441,8 +456,21 @@ static void begins_request(void) {
     pilhangko_status status = allocator_status(true, is_utf8(name) ? PILHANGKO_OK : PILHANGKO_INVALID);
     if (status == PILHANGKO_OK) status = account_begin_request(&account, &r, name);
     IS(pilhangko_allocator_begin(&allocator, &r, name, &p), status);
-    if (status == PILHANGKO_OK) is_progress(&p, status);
-    else CHECK(p.kind == UINT32_MAX && p.status == UINT32_MAX && p.question.size == UINT64_MAX);
+    is_begun(&p, status);
+}
+
+static void begins_by_flags(void) {
+    const pilhangko_allocator_request r = next_request();
+    const uint32_t required = next_byte() % 4 ? next_byte() & 3 : next_byte(), preferred = next_byte(), avoided = next_byte();
+    const pilhangko_preference preference = {required, preferred, avoided, next_byte() % 4 == 0};
+    const char *name = next_name();
+    pilhangko_allocator_progress p;
+    if (!has_room()) return;
+    memset(&p, 0xff, sizeof p);
+    pilhangko_status status = allocator_status(true, is_utf8(name) ? PILHANGKO_OK : PILHANGKO_INVALID);
+    if (status == PILHANGKO_OK) status = account_begin_by_flags(&account, &r, name, &preference);
+    IS(pilhangko_allocator_begin_by_flags(&allocator, &r, name, &preference, &p), status);
+    is_begun(&p, status);
 }
 
 static void grants(void) {
@@ -563,6 +591,40 @@ static void bounds_allocator(void) {
     if (!has_allocator) return;
     const bool bounded = is_there && account.types[at].has_budget;
     CHECK(told.exists == bounded && told.bytes == (bounded ? account.types[at].budget : 0));
+}
+
+static void limits_blocks(void) {
+    const bool has = next_byte() % 2;
+    const size_t count = next_byte() % 16;
+    const pilhangko_status status = allocator_status(true, PILHANGKO_OK);
+    bool has_most = !has;
+    size_t most = 77;
+    IS(pilhangko_allocator_set_most_blocks(&allocator, has, count), status);
+    if (status == PILHANGKO_OK) {
+        account.has_most = has;
+        account.most_blocks = count;
+    }
+    IS(pilhangko_allocator_most_blocks(&allocator, &has_most, &most), allocator_status(false, PILHANGKO_OK));
+    if (!has_allocator) return;
+    CHECK(has_most == account.has_most && most == (account.has_most ? account.most_blocks : 0));
+}
+
+/* The limit of a heap, which counts for all its memory types. */
+static void limits_heap(void) {
+    const size_t at = next_byte() % 16 ? next_byte() % ACCOUNT_HEAPS : next_number();
+    const bool has = next_byte() % 2, is_there = has_allocator && at < account.heap_count;
+    const uint64_t bytes = next_size();
+    const pilhangko_status status = allocator_status(true, is_there ? PILHANGKO_OK : PILHANGKO_NO_SUCH_HEAP);
+    pilhangko_budget told;
+    IS(pilhangko_allocator_set_heap_limit(&allocator, at, has, bytes), status);
+    if (status == PILHANGKO_OK) {
+        account.has_limit[at] = has;
+        account.limit[at] = bytes;
+    }
+    IS(pilhangko_allocator_heap_limit(&allocator, at, &told), allocator_status(false, PILHANGKO_OK));
+    if (!has_allocator) return;
+    const bool bounded = is_there && account.has_limit[at];
+    CHECK(told.exists == bounded && told.bytes == (bounded ? account.limit[at] : 0));
 }
 
 static void same_type_statistics(size_t at) {
@@ -737,12 +799,15 @@ static void calls_type(uint8_t what) {
 
 static void calls_allocator(uint8_t what) {
     if (what < 5) creates_allocator();
-    else if (what < 30) begins_request();
+    else if (what < 22) begins_request();
+    else if (what < 30) begins_by_flags();
     else if (what < 43) grants();
     else if (what < 50) refuses(what % 2);
     else if (what < 70) frees_of_allocator();
     else if (what < 75) renames_of_allocator();
-    else if (what < 80) bounds_allocator();
+    else if (what < 78) bounds_allocator();
+    else if (what < 79) limits_heap();
+    else if (what < 80) limits_blocks();
     else if (what < 89) looks_at_allocator();
     else if (what < 99) proposes_move();
     else ends_allocator();

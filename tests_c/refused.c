@@ -131,6 +131,33 @@ static void second_places(pilhangko_allocator *allocator, const pilhangko_alloca
     IS(pilhangko_allocator_free(allocator, &progress.piece, &gone), PILHANGKO_OK);
 }
 
+/* Requests by flags: a host without memory is told at once, before and behind the driver's refusal, and another memory type isn't tried. */
+static void by_flags(void) {
+    pilhangko_allocator allocator = {0};
+    const pilhangko_device_memory_type types[] = {{1, 0}, {6, 1}};
+    const pilhangko_device_heap heaps[] = {{1024 * MB, 1}, {512 * MB, 0}};
+    const pilhangko_allocator_settings settings = {1, 4 * MB, 0, 4 * MB, 0};
+    const pilhangko_allocator_request request = {MB, 1, 3, PILHANGKO_KIND_LINEAR, PILHANGKO_LOCATION_UNKNOWN, PILHANGKO_SCHEME_MANAGED, 0};
+    const pilhangko_preference preference = {0, 1, 0, false};
+    TRIED(pilhangko_allocator_create(&allocator, types, 2, heaps, 2, &settings),
+        pilhangko_allocator_destroy(&allocator) == PILHANGKO_NO_HANDLE);
+    pilhangko_allocator_progress progress = {.kind = 9};
+    TRIED(pilhangko_allocator_begin_by_flags(&allocator, &request, "a name that takes memory of its own", &preference, &progress),
+        allocator_has(&allocator, 0) && progress.kind == 9);
+    CHECK(progress.kind == PILHANGKO_PROGRESS_QUESTION && progress.question.memory_type == 0);
+    const long before = heap_requests;
+    IS(pilhangko_allocator_refused(&allocator, -2, &progress), PILHANGKO_OK);
+    if (heap_refused > before && heap_refused <= heap_requests) {
+        CHECK(progress.kind == PILHANGKO_PROGRESS_REFUSED && progress.status == PILHANGKO_HOST_OUT_OF_MEMORY);
+        refusals++;
+        heap_refused = 0;
+    } else {
+        CHECK(progress.kind == PILHANGKO_PROGRESS_QUESTION && progress.question.memory_type == 1);
+    }
+    CHECK(allocator_has(&allocator, 0));
+    IS(pilhangko_allocator_destroy(&allocator), PILHANGKO_OK);
+}
+
 static void allocators(void) {
     pilhangko_allocator allocator = {0};
     const pilhangko_device_memory_type types[] = {{1, 0}, {6, 1}};
@@ -311,6 +338,7 @@ static void each_sort(void) {
     rings();
     memory_types();
     allocators();
+    by_flags();
     all_heaps();
     metal_heaps();
 }

@@ -16,8 +16,10 @@ use Rattle.gpu_pool.specs.RequestState.{RequestState}
 use Rattle.gpu_pool.specs.declared.requests.Awaited.{Awaited}
 use Rattle.gpu_vulkan.specs.declared.describe.AllocationCreateDesc.{AllocationCreateDesc}
 use Rattle.gpu_pool.specs.Begin as pools
+use Rattle.gpu_machine.specs.VulkanAttempt.{IsAboveLimit}
 use Rattle.gpu_machine.specs.VulkanBegin.{request_in, IsWithinHeap, Tries, Begins, BeginsIn, BeginsBy, BeginsAt, MakesAttempts, Follows, Grants, GrantsIn}
 use Rattle.gpu_machine.specs.VulkanCalls.{Frees, memory_in}
+use Rattle.gpu_machine.specs.VulkanDescription.{description_of}
 use Rattle.gpu_machine.specs.declared.vulkan.answer.Allocated.{Allocated}
 use Rattle.gpu_machine.specs.declared.vulkan.answer.MemoryBack.{MemoryBack}
 use Rattle.gpu_c.specs.Allocator.{State, is_same_block, piece_told, Names, IsLive}
@@ -73,10 +75,12 @@ module _ (old new : State) (d : AllocationCreateDesc) (e : AllocationError) wher
   tries_same : (t : ℕ) (is_second : Bool) → Tries old t d is_second (Err e) new → old.requests.awaited ≡ None → new ≡ old
   tries_same t is_second h closed =
       ⊎_elim (λ large. large.refused.1)
+      (λ rest. ⊎_elim (λ (above : IsAboveLimit old t (description_of d) (Err e) new). above.refused.1)
       (λ (within : IsWithinHeap old t d is_second (Err e) new).
       let begun : pools.BeginsIn (request_in t d) None old.requests (Err e) new.requests =
       subst (λ (o : Option Awaited). pools.BeginsIn (request_in t d) o old.requests (Err e) new.requests) closed within.begins in
       within.state ∙ ap (λ (r : RequestState MappedMemory). record old { requests = r }) begun.1)
+      rest)
       h
 
   follows_same : (o : Option ℕ) (r : Refusal) → old.requests.awaited ≡ None → Follows old d o r (Err e) new → new ≡ old

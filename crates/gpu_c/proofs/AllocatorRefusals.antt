@@ -11,6 +11,7 @@ use Rattle.gpu_pool.specs.RequestState.{pool_of}
 use Rattle.gpu_pool.specs.declared.requests.Awaited.{Awaited}
 use Rattle.gpu_vulkan.specs.Allocate.{is_valid}
 use Rattle.gpu_vulkan.specs.declared.describe.AllocationCreateDesc.{AllocationCreateDesc}
+use Rattle.gpu_machine.specs.VulkanAttempt.{IsAboveLimit}
 use Rattle.gpu_machine.specs.VulkanBegin.{request_in, IsTooLarge, IsWithinHeap, Tries, Begins, BeginsIn, BeginsBy, BeginsAt, MakesAttempts, Follows}
 use Rattle.gpu_machine.specs.VulkanDescription.{description_of}
 use Rattle.gpu_c.specs.Allocator.{State, Says}
@@ -21,23 +22,23 @@ use Rattle.gpu_c.specs.declared.allocator_values.AllocatorRequest.{AllocatorRequ
 abbrev pub Told : Refusal → Type 0
 Told r = IsOneOf (refusal_status r) (status.no_memory_type ∷ status.out_of_memory ∷ status.host_out_of_memory ∷ status.budget_exceeded ∷ [])
 
-abbrev TheOption : Option Refusal → Type 0
+abbrev pub TheOption : Option Refusal → Type 0
 TheOption None = ⊥
 TheOption (Some r) = Told r
 
-no_type_told : Told refusals.no_compatible_memory_type_found
+pub no_type_told : Told refusals.no_compatible_memory_type_found
 no_type_told = inl refl
 
-short_told : Told refusals.out_of_memory
+pub short_told : Told refusals.out_of_memory
 short_told = inr (inl refl)
 
-host_told : Told refusals.host_out_of_memory
+pub host_told : Told refusals.host_out_of_memory
 host_told = inr (inr (inl refl))
 
-budget_told : Told refusals.budget_exceeded
+pub budget_told : Told refusals.budget_exceeded
 budget_told = inr (inr (inr (inl refl)))
 
-limited : (x y : Bool) (r : Refusal) → (if x then (if y then None else Some refusals.budget_exceeded) else Some refusals.out_of_memory) ≡ Some r → Told r
+pub limited : (x y : Bool) (r : Refusal) → (if x then (if y then None else Some refusals.budget_exceeded) else Some refusals.out_of_memory) ≡ Some r → Told r
 limited true true r e = absurd (grind (arith, e))
 limited true false r e = subst TheOption e budget_told
 limited false y r e = subst TheOption e short_told
@@ -54,7 +55,9 @@ module _ (old : State) (d : AllocationCreateDesc) (closed : old.requests.awaited
   tried_told : (t : ℕ) (is_second : Bool) (e : AllocationError) (new : State) → Tries old t d is_second (Err e) new → Told (refusal_of e)
   tried_told t is_second e new h =
       ⊎_elim (λ (large : IsTooLarge old t d (Err e) new). subst TheOption (sym large.refused.0) short_told)
+      (λ rest. ⊎_elim (λ (above : IsAboveLimit old t (description_of d) (Err e) new). subst TheOption (sym above.refused.0) budget_told)
       (λ (within : IsWithinHeap old t d is_second (Err e) new). within_told t is_second e new within)
+      rest)
       h
 
   follows_told : (o : Option ℕ) (r : Refusal) (e : AllocationError) (new : State) → Told r → Follows old d o r (Err e) new → Told (refusal_of e)

@@ -1,6 +1,7 @@
 -- What lies behind the handles of the C library may go to another thread: each of its types names no thread's token.
 use denote.RattleType.{RattleType}
-use denote.Param.Send.{IsSend, sendable}
+use denote.Param.Send.{IsSend, sendable, recorded_send, struct_send}
+use denote.Struct.Declared.{shape}
 use denote.Builtin.{bool, u64, usize}
 use Rattle.core.specs.declared.cmp.PartialEq as eq
 use Rattle.core.specs.contracts.option.Option as Option
@@ -47,6 +48,7 @@ use Rattle.gpu_values.specs.contracts.memory_location.MemoryLocation as MemoryLo
 use Rattle.gpu_device.specs.contracts.vulkan.types.MemoryHeap as MemoryHeap
 use Rattle.gpu_device.specs.contracts.vulkan.types.MemoryTypeInfo as MemoryTypeInfo
 use Rattle.gpu_core.specs.contracts.memory_types.MemoryTypes as MemoryTypes
+use Rattle.gpu_vulkan.specs.contracts.preference.Preference as Preference
 use Rattle.gpu_vulkan.specs.contracts.setup.Settings as Settings
 use Rattle.gpu_vulkan.specs.contracts.setup.Setup as Setup
 use Rattle.gpu_pool.specs.contracts.requests.Awaited as Awaited
@@ -240,8 +242,23 @@ description_send =
       leaving = λ k d w. tt;
     }
 
+preference_send : IsSend Preference.the_row
+preference_send = let b = bool_send in search sendable depth 20
+
+preference_option_send : IsSend (Option.the_field Preference.the_row).row
+preference_option_send = let p = preference_send in search sendable depth 20
+
 asking_send : IsSend Asking.the_row
-asking_send = let d = description_send in let b = bool_send in search sendable depth 20
+asking_send = recorded_send (Asking.the_field).row _ _ (Asking.the_type).to_one (struct_send (shape Asking.the_type) (description_send, (bool_send, (preference_option_send, tt))))
+
+limit_send : IsSend (Option.the_row u64)
+limit_send = search sendable depth 20
+
+limits_send : IsSend (Vec.the_row (Option.the_row u64) Heap.the_row ghosts)
+limits_send = let l = limit_send in search (sendable, Vec-send) depth 20
+
+most_send : IsSend (Option.the_row usize)
+most_send = search sendable depth 20
 
 asking_option_send : IsSend (Option.the_row Asking.the_row)
 asking_option_send = let a = asking_send in search sendable depth 20
@@ -269,10 +286,10 @@ module _ (H : RattleType) where
 
 machine_of : ((e : eq.Ghosts MappedMemory.the_row.Denot) → IsSend (MemoryType.the_row MappedMemory.the_row e)) → IsSend (Machine.the_row MappedMemory.the_row memory_eq.ghosts)
 machine_of t =
-    let s = setup_send in let a = asking_option_send in let g = heap.send in
+    let s = setup_send in let l = limits_send in let m = most_send in let a = asking_option_send in let g = heap.send in
     record {
       owned = λ d vs x. (
-        (λ vss. (tt, (g.owned _ vss.0, (s.owned x.0.setup vss.1.0, ((requests_of MappedMemory.the_row t memory_eq.ghosts).owned x.0.requests vss.1.1.0, (a.owned x.0.asking vss.1.1.1.0, tt)))))),
+        (λ vss. (tt, (g.owned _ vss.0, (s.owned x.0.setup vss.1.0, (l.owned x.0.limits vss.1.1.0, (m.owned x.0.most_blocks vss.1.1.1.0, ((requests_of MappedMemory.the_row t memory_eq.ghosts).owned x.0.requests vss.1.1.1.1.0, (a.owned x.0.asking vss.1.1.1.1.1.0, tt)))))))),
         tt,
       );
       leaving = λ k d w. tt;

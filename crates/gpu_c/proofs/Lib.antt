@@ -8,6 +8,7 @@ mod VirtualBlockHandleWords
 mod MemoryTypeHandleWords
 mod AllocatorLaws
 mod AllocatorRefusals
+mod AllocatorFlags
 mod AllocatorHandleWords
 mod HeapsHandleWords
 mod HeapsLaws

@@ -5,6 +5,8 @@ pub mod Visit
 pub mod MemoryType
 pub mod Owned
 pub mod Allocator
+pub mod AllocatorFlags
+pub mod AllocatorLimits
 pub mod AllocatorMoves
 pub mod TypesVisit
 pub mod AllocatorChoice

@@ -3,16 +3,21 @@
 //! destroy leaves it zeroed. Any status but `OK` leaves everything as it was.
 
 ghost use Rattle.std.specs.Prelude.{◌≡◌, ◌≢◌, ◌≤◌, ◌↔◌, [], ◌∷◌, length, Some, None, Ok, IsSome, IsSomeAnd, IsTrue, IsUtf8};
+ghost use Rattle.std.specs.Option.{is_some, unwrap_or};
 ghost use Rattle.gpu_core.specs.Blocks.{total_capacity};
 ghost use Rattle.gpu_core.specs.Budgets.{budget_at};
 ghost use Rattle.gpu_vulkan.specs.BlockAnswer.{memory_refusal, map_refusal};
 ghost use Rattle.gpu_pool.specs.Idle.{SetsBudgetIdle};
+ghost use Rattle.gpu_machine.specs.VulkanCalls.{SetsHeapLimit, SetsMostBlocks};
+ghost use Rattle.gpu_machine.specs.VulkanHeapLimit.{limit_at};
 ghost use Rattle.gpu_machine.specs.VulkanState.{told_fault};
 ghost use Rattle.gpu_c.specs.Handle.{Changes};
 ghost use Rattle.gpu_c.specs.Status as status;
 ghost use Rattle.gpu_c.specs.Status.{IsOneOf};
 ghost use Rattle.gpu_c.specs.MemoryType.{number_if};
 ghost use Rattle.gpu_c.specs.Allocator.{device_told, device_status, IsFresh, SaysNothing, IsBegun, IsDenied, IsGranted, IsDeclined, code_if, IsLive, IsFreed, IsRenamed, budget_told};
+ghost use Rattle.gpu_c.specs.AllocatorFlags.{IsBegunByFlags, IsDeniedByFlags};
+ghost use Rattle.gpu_c.specs.AllocatorLimits.{count_if};
 ghost use Rattle.gpu_c.specs.AllocatorMoves.{IsOfPiece, IsProposed};
 ghost use Rattle.gpu_c.specs.declared.status.TheConstants.{OK, OUT_OF_MEMORY, FAILED_TO_MAP, NO_MEMORY_TYPE, INVALID, INVALID_DEVICE, NOT_LIVE, HOST_OUT_OF_MEMORY, BUDGET_EXCEEDED, DRIVER_REFUSED, NO_SUCH_TYPE, TOO_MANY_TYPES, NO_SUCH_HEAP, NO_HANDLE, IN_USE, AWAITS_ANSWER, AWAITS_NO_ANSWER};
 
@@ -20,12 +25,14 @@ use crate::allocator::{
     begin, free, fresh, granted, is_live, mapping_refused, refused, rename, set_budget,
 };
 use crate::allocator_answer::budget_told;
+use crate::allocator_flags::begin_by_flags;
 use crate::allocator_handle::AllocatorHandle;
+use crate::allocator_limits::{set_heap_limit, set_most_blocks};
 use crate::allocator_moves::propose_move;
 use crate::allocator_request::device_status;
 use crate::allocator_values::{
-    AllocatorBudget, AllocatorMemory, AllocatorPiece, AllocatorProgress, AllocatorRequest,
-    AllocatorSettings, DeviceHeap, DeviceMemoryType,
+    AllocatorBudget, AllocatorMemory, AllocatorPiece, AllocatorPreference, AllocatorProgress,
+    AllocatorRequest, AllocatorSettings, DeviceHeap, DeviceMemoryType,
 };
 use crate::status::{HOST_OUT_OF_MEMORY, IN_USE, NO_HANDLE, OK};
 use std::alloc::Global;
@@ -109,6 +116,45 @@ pub extern "C" fn pilhangko_raw_allocator_begin(
         None => NO_HANDLE,
         Some(mut kept) => {
             let status = begin(&mut kept, request, name, progress);
+            allocator.put(kept);
+            status
+        }
+    }
+}
+
+/// Begins a request whose memory is chosen by flags, and not by its location, which isn't looked at: memory types that have all that is
+/// required are tried from the cheapest on, while one has no room. Else as with `pilhangko_raw_allocator_begin`: `NO_MEMORY_TYPE` where none
+/// serves, else why the last one that was tried was refused.
+#[unsafe(no_mangle)]
+pub extern "C" fn pilhangko_raw_allocator_begin_by_flags(
+    allocator: &mut AllocatorHandle,
+    alloc: Global,
+    request: &AllocatorRequest,
+    name: &[u8],
+    preference: &AllocatorPreference,
+    progress: &mut AllocatorProgress,
+) -> u32
+    ensures begun { result ≡ status.ok → Changes allocator.old.value allocator.new.value
+        (λ old new. IsBegunByFlags old request.now name.now preference.now progress.new new) }
+    ensures no_handle { (result ≡ status.no_handle) ↔ (allocator.old.value ≡ None) }
+    ensures awaits_answer { (result ≡ status.awaits_answer)
+        ↔ IsSomeAnd allocator.old.value (λ s. IsSome s.requests.awaited) }
+    ensures invalid { (result ≡ status.invalid)
+        ↔ IsSomeAnd allocator.old.value
+        (λ s. (s.requests.awaited ≡ None) × SaysNothing request.now name.now) }
+    ensures denied { result ≢ status.ok → result ≢ status.no_handle → result ≢ status.awaits_answer
+        → result ≢ status.invalid → IsSomeAnd allocator.old.value
+        (λ s. IsDeniedByFlags s request.now name.now preference.now result) }
+    ensures statuses { IsOneOf result (status.ok ∷ status.no_handle ∷ status.awaits_answer
+        ∷ status.invalid ∷ status.no_memory_type ∷ status.out_of_memory
+        ∷ status.host_out_of_memory ∷ status.budget_exceeded ∷ []) }
+    ensures refused { result ≢ status.ok
+        → (allocator.new.value ≡ allocator.old.value) × (progress.new ≡ progress.old) }
+{
+    match allocator.take(alloc) {
+        None => NO_HANDLE,
+        Some(mut kept) => {
+            let status = begin_by_flags(&mut kept, request, name, preference, progress);
             allocator.put(kept);
             status
         }
@@ -394,6 +440,123 @@ pub extern "C" fn pilhangko_raw_allocator_budget(
         None => NO_HANDLE,
         Some(kept) => {
             *budget = budget_told(kept.budget(memory_type));
+            allocator.put(kept);
+            OK
+        }
+    }
+}
+
+/// Bounds the sum of the sizes of the blocks that lie in a heap, of whichever memory type, in bytes, or takes the bound away. A bound below the
+/// present sum gives no block back. `AWAITS_ANSWER` where a question is open, else `NO_SUCH_HEAP`.
+#[unsafe(no_mangle)]
+pub extern "C" fn pilhangko_raw_allocator_set_heap_limit(
+    allocator: &mut AllocatorHandle,
+    alloc: Global,
+    heap: usize,
+    has_limit: bool,
+    bytes: u64,
+) -> u32
+    ensures bounded { result ≡ status.ok
+        → Changes allocator.old.value allocator.new.value
+        (λ old new. (old.requests.awaited ≡ None)
+        × SetsHeapLimit old heap (number_if has_limit bytes) (Ok tt) new) }
+    ensures no_handle { (result ≡ status.no_handle) ↔ (allocator.old.value ≡ None) }
+    ensures awaits_answer { (result ≡ status.awaits_answer)
+        ↔ IsSomeAnd allocator.old.value (λ s. IsSome s.requests.awaited) }
+    ensures no_such_heap { (result ≡ status.no_such_heap)
+        ↔ IsSomeAnd allocator.old.value
+        (λ s. (s.requests.awaited ≡ None) × (length s.limits ≤ heap)) }
+    ensures statuses { IsOneOf result (status.ok ∷ status.no_handle ∷ status.awaits_answer
+        ∷ status.no_such_heap ∷ []) }
+    ensures refused { result ≢ status.ok → allocator.new.value ≡ allocator.old.value }
+{
+    match allocator.take(alloc) {
+        None => NO_HANDLE,
+        Some(mut kept) => {
+            let status = set_heap_limit(&mut kept, heap, has_limit, bytes);
+            allocator.put(kept);
+            status
+        }
+    }
+}
+
+/// The limit of a heap; none where it has none, or isn't there.
+#[unsafe(no_mangle)]
+pub extern "C" fn pilhangko_raw_allocator_heap_limit(
+    allocator: &mut AllocatorHandle,
+    alloc: Global,
+    heap: usize,
+    limit: &mut AllocatorBudget,
+) -> u32
+    ensures reported { result ≡ status.ok
+        → IsSomeAnd allocator.old.value (λ s. limit.new ≡ budget_told (limit_at s.limits heap)) }
+    ensures no_handle { (result ≡ status.no_handle) ↔ (allocator.old.value ≡ None) }
+    ensures statuses { IsOneOf result (status.ok ∷ status.no_handle ∷ []) }
+    ensures same { allocator.new.value ≡ allocator.old.value }
+    ensures refused { result ≢ status.ok → limit.new ≡ limit.old }
+{
+    match allocator.take(alloc) {
+        None => NO_HANDLE,
+        Some(kept) => {
+            *limit = budget_told(kept.heap_limit(heap));
+            allocator.put(kept);
+            OK
+        }
+    }
+}
+
+/// Bounds how many blocks there may be, of all memory types together, or takes the bound away. A bound below their present number gives no
+/// block back. `AWAITS_ANSWER` where a question is open.
+#[unsafe(no_mangle)]
+pub extern "C" fn pilhangko_raw_allocator_set_most_blocks(
+    allocator: &mut AllocatorHandle,
+    alloc: Global,
+    has_most: bool,
+    count: usize,
+) -> u32
+    ensures bounded { result ≡ status.ok
+        → Changes allocator.old.value allocator.new.value
+        (λ old new. (old.requests.awaited ≡ None)
+        × SetsMostBlocks old (count_if has_most count) (Ok tt) new) }
+    ensures no_handle { (result ≡ status.no_handle) ↔ (allocator.old.value ≡ None) }
+    ensures awaits_answer { (result ≡ status.awaits_answer)
+        ↔ IsSomeAnd allocator.old.value (λ s. IsSome s.requests.awaited) }
+    ensures statuses { IsOneOf result (status.ok ∷ status.no_handle ∷ status.awaits_answer
+        ∷ []) }
+    ensures refused { result ≢ status.ok → allocator.new.value ≡ allocator.old.value }
+{
+    match allocator.take(alloc) {
+        None => NO_HANDLE,
+        Some(mut kept) => {
+            let status = set_most_blocks(&mut kept, has_most, count);
+            allocator.put(kept);
+            status
+        }
+    }
+}
+
+/// How many blocks there may be, of all memory types together: whether that is bounded, and by how many, 0 where it isn't.
+#[unsafe(no_mangle)]
+pub extern "C" fn pilhangko_raw_allocator_most_blocks(
+    allocator: &mut AllocatorHandle,
+    alloc: Global,
+    has_most: &mut bool,
+    count: &mut usize,
+) -> u32
+    ensures reported { result ≡ status.ok → IsSomeAnd allocator.old.value
+        (λ s. (has_most.new ≡ is_some s.most_blocks) × (count.new ≡ unwrap_or s.most_blocks 0)) }
+    ensures no_handle { (result ≡ status.no_handle) ↔ (allocator.old.value ≡ None) }
+    ensures statuses { IsOneOf result (status.ok ∷ status.no_handle ∷ []) }
+    ensures same { allocator.new.value ≡ allocator.old.value }
+    ensures refused { result ≢ status.ok → (has_most.new ≡ has_most.old)
+        × (count.new ≡ count.old) }
+{
+    match allocator.take(alloc) {
+        None => NO_HANDLE,
+        Some(kept) => {
+            let most = kept.most_blocks();
+            *has_most = most.is_some();
+            *count = most.unwrap_or(0);
             allocator.put(kept);
             OK
         }

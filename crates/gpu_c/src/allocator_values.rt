@@ -58,6 +58,20 @@ pub struct AllocatorRequest {
     pub resource: u64,
 }
 
+/// Which memory a request takes, by flags of memory types (`VkMemoryPropertyFlags`) in place of its location.
+#[repr(C)]
+#[derive(Drop)]
+pub struct AllocatorPreference {
+    /// What its memory must have.
+    pub required: u32,
+    /// What it would best have.
+    pub preferred: u32,
+    /// What it would best not have.
+    pub avoided: u32,
+    /// Whether only blocks that are there are looked at, and no new one is asked for.
+    pub never_allocate: bool,
+}
+
 /// A piece of an allocator.
 #[repr(C)]
 #[derive(Drop)]
