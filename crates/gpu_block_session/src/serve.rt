@@ -1,4 +1,4 @@
-//! A machine that serves one command after another.
+//! Sessions that serve one command after another.
 
 ghost use Rattle.std.specs.Prelude.{◌≡◌, length, IfOk, IfErr, OnErr};
 ghost use Rattle.gpu_values.specs.declared.error.AllocationError.TheVariants.{HostOutOfMemory};
@@ -9,7 +9,7 @@ use log::Log;
 use std::alloc::Global;
 
 /// What serves one command at a time: a state, and for each command a reply and the next state.
-pub trait Machine {
+pub trait Serve {
     /// What it is asked for.
     type Command;
     /// What it answers.
@@ -25,23 +25,23 @@ pub trait Machine {
 
 /// Serves commands one after another, and answers a reply for each. Room for all replies is made first: where it is refused,
 /// the answer is `HostOutOfMemory` and nothing has run.
-pub fn run<M: Machine, L: Log>(
+pub fn run<S: Serve, L: Log>(
     alloc: Global,
-    machine: &mut M,
+    session: &mut S,
     log: &L,
-    commands: &[M::Command],
-) -> Result<Vec<M::Reply>>
-    ensures run { IfOk result (λ replies. IsRun M.serves commands.now replies.items machine.old
-        machine.new) }
+    commands: &[S::Command],
+) -> Result<Vec<S::Reply>>
+    ensures run { IfOk result (λ replies. IsRun S.serves commands.now replies.items session.old
+        session.new) }
     ensures count { IfOk result (λ replies. length replies.items ≡ length commands.now) }
-    ensures nothing { OnErr result (machine.new ≡ machine.old) }
+    ensures nothing { OnErr result (session.new ≡ session.old) }
     ensures cause { IfErr result (λ e. e ≡ HostOutOfMemory) }
 {
     let Ok(mut replies) = Vec::with_capacity(alloc, commands.len()) else {
         return Err(AllocationError::HostOutOfMemory);
     };
     for command in commands {
-        let reply = machine.serve(log, command);
+        let reply = session.serve(log, command);
         replies.push_reserved(reply);
     }
     Ok(replies)

@@ -1,5 +1,5 @@
 //! Sessions, by module: an allocator that serves one command after another, and what a caller's numbers stand for. The session of one
-//! block, and a list of commands over any machine, stand in gpu_block_session.
+//! block, and a list of commands over any session, stand in gpu_block_session.
 #![tactic(auto)]
 
 mod bindings;
@@ -8,4 +8,4 @@ pub mod metal;
 pub mod vulkan;
 
 pub use bindings::bind;
-pub use gpu_block_session::{ErrorNumber, Machine, block, number_of, run};
+pub use gpu_block_session::{ErrorNumber, Serve, block, number_of, run};

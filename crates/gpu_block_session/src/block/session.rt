@@ -10,7 +10,7 @@ ghost use Rattle.gpu_block.specs.SubAllocator.{block_of};
 ghost use Rattle.gpu_block_session.specs.BlockSession.{Allocating};
 
 use crate::block::{Command, Kind, Reply, Report};
-use crate::{ErrorNumber, Machine, number_of};
+use crate::{ErrorNumber, Serve, number_of};
 use gpu_block::{FreeListAllocator, SubAllocator};
 use gpu_values::AllocationType;
 use log::Log;
@@ -54,7 +54,7 @@ impl Model for BlockSession {
         × OwnsPieces (record { block = block_of s.block; bound = s.bound.entries }) };
 }
 
-impl Machine for BlockSession {
+impl Serve for BlockSession {
     ghost use Rattle.gpu_block_session.specs.BlockSession.{Serves};
 
     type Command = Command;

@@ -22,7 +22,7 @@ ghost use Rattle.gpu_run.specs.declared.d3d12.command.WantedResource.{WantedReso
 use crate::d3d12::command::{Command, WantedResource};
 use crate::d3d12::describe::{describe, describe_piece, resource_type};
 use crate::d3d12::reply::{Allocated, Made, Reply};
-use crate::{Machine, bind};
+use crate::{Serve, bind};
 use gpu_d3d12::{
     Allocation, AllocationCreateDesc, Allocator, ID3D12DeviceVersion, Resource, ResourceCreateDesc,
 };
@@ -64,7 +64,7 @@ impl<D: D3D12Device> Model for Session<D> {
         })) };
 }
 
-impl<D: D3D12Device> Machine for Session<D> {
+impl<D: D3D12Device> Serve for Session<D> {
     ghost use Rattle.gpu_run.specs.D3D12Served.{ServesCommand};
 
     type Command = Command;

@@ -18,7 +18,7 @@ ghost use Rattle.gpu_pool.specs.Allocation.{piece_of};
 use crate::metal::command::Command;
 use crate::metal::describe::{Wanted, describe, describe_piece, wanted_piece};
 use crate::metal::reply::{Allocated, Reply};
-use crate::{Machine, bind};
+use crate::{Serve, bind};
 use gpu_device::metal::MetalDevice;
 use gpu_metal::{Allocation, AllocationCreateDesc, Allocator};
 use gpu_values::{AllocationError, Result};
@@ -47,7 +47,7 @@ impl<D: MetalDevice> Model for Session<D> {
         (record { allocator = s.allocator; bound = s.bound.entries })) };
 }
 
-impl<D: MetalDevice> Machine for Session<D> {
+impl<D: MetalDevice> Serve for Session<D> {
     ghost use Rattle.gpu_run.specs.MetalServed.{ServesCommand};
 
     type Command = Command;

@@ -13,7 +13,7 @@ ghost use Rattle.gpu_run.specs.VulkanServed.{session_of, command_of, reply_of, s
 
 use crate::vulkan::command::describe;
 use crate::vulkan::{Allocated, Command, Reply};
-use crate::{Machine, bind};
+use crate::{Serve, bind};
 use gpu_device::vulkan::VulkanDevice;
 use gpu_values::{AllocationError, Result};
 use gpu_vulkan::{Allocation, AllocationCreateDesc, Allocator};
@@ -42,7 +42,7 @@ impl<D: VulkanDevice> Model for Session<D> {
         (record { allocator = s.allocator; bound = s.bound.entries })) };
 }
 
-impl<D: VulkanDevice> Machine for Session<D> {
+impl<D: VulkanDevice> Serve for Session<D> {
     ghost use Rattle.gpu_run.specs.VulkanServed.{ServesCommand};
 
     type Command = Command;

@@ -11,7 +11,7 @@ use crate::d3d12::setting::Setting;
 use crate::{Outcome, Trace};
 use gpu_d3d12::{Allocator, AllocatorCreateDesc};
 use gpu_run::d3d12::{Command, Session};
-use gpu_run::{Machine, number_of};
+use gpu_run::{Serve, number_of};
 use gpu_sim_d3d12::SimD3D12;
 use gpu_values::AllocatorDebugSettings;
 use log::Log;

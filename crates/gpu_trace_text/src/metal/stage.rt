@@ -13,7 +13,7 @@ use crate::{Outcome, Trace};
 use gpu_device::metal::MTLResidencySet;
 use gpu_metal::{Allocator, AllocatorCreateDesc};
 use gpu_run::metal::{Command, Session};
-use gpu_run::{Machine, number_of};
+use gpu_run::{Serve, number_of};
 use gpu_sim_metal::SimMetal;
 use gpu_values::AllocatorDebugSettings;
 use log::Log;
