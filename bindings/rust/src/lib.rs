@@ -19,6 +19,7 @@
 extern crate self as pilhangko;
 
 pub mod d3d12;
+mod defragmentation;
 mod error;
 mod heap;
 pub mod memory_type;

@@ -351,3 +351,46 @@ fn of_the_d3d12_allocator() {
     device.assert_left_empty();
     assert_eq!(held(), 0);
 }
+
+#[cfg(target_arch = "x86_64")]
+#[test]
+fn of_a_defragmentation_of_d3d12() {
+    use crate::d3d12::{self, ResourceCategory};
+    let device = fake_d3d12::FakeDevice::new(2, 0);
+    let desc = d3d12::AllocatorCreateDesc {
+        allocation_sizes: AllocationSizes::new(4 << 20, 4 << 20),
+        ..d3d12::AllocatorCreateDesc::new(device.version())
+    };
+    let mut allocator = d3d12::Allocator::new(&desc).unwrap();
+    let request = d3d12::AllocationCreateDesc {
+        name: NAME,
+        location: MemoryLocation::GpuOnly,
+        size: 1 << 20,
+        alignment: 1 << 16,
+        resource_category: ResourceCategory::Buffer,
+    };
+    let mut live: Vec<_> = (0..8).map(|_| allocator.allocate(&request).unwrap()).collect();
+    live.drain(5..).for_each(|it| allocator.free(it).unwrap()); // three gaps above four pieces
+    let movables: Vec<_> = live.iter().map(|it| (it, request.clone())).collect();
+    let mut both = (d3d12::Defragmentation::new(), allocator);
+    let frame = |(it, allocator): &mut (d3d12::Defragmentation, d3d12::Allocator)| {
+        it.propose(allocator, &movables, 1 << 30, 2).map(<[d3d12::Move]>::len)
+    };
+    let unchanged = |(it, allocator): &(d3d12::Defragmentation, d3d12::Allocator)| {
+        assert_eq!((it.open().len(), allocator.statistics().pieces), (0, 5));
+    };
+    let (proposed, refusals) = in_turn(&mut both, frame, unchanged);
+    assert!(proposed == 2 && refusals > 0);
+    let (mut it, mut allocator) = both;
+    refuse(1); // no later call needs any
+    let key = it.open()[1].key();
+    it.finish(&mut allocator, key, &mut live[1]).unwrap();
+    assert_eq!(it.end(&mut allocator).map(|it| it.moves).map_err(|(error, _)| error), Ok(1));
+    assert!(!has_refused());
+    refuse(0);
+    live.into_iter().for_each(|it| allocator.free(it).unwrap());
+    drop(allocator);
+    drop(desc);
+    device.assert_left_empty();
+    assert_eq!(held(), 0);
+}

@@ -10,8 +10,8 @@ use fake_d3d12::{
 };
 use pilhangko::d3d12::{
     Allocation, AllocationCreateDesc, Allocator, AllocatorCreateDesc, ClearValue, CommittedAllocationStatistics,
-    HeapProperties, ID3D12DeviceVersion, Interface, Resource, ResourceCategory, ResourceCreateDesc, ResourceDesc,
-    ResourceStateOrBarrierLayout, ResourceType,
+    Defragmentation, DefragmentationStatistics, HeapProperties, ID3D12DeviceVersion, Interface, Move, MoveKey,
+    Resource, ResourceCategory, ResourceCreateDesc, ResourceDesc, ResourceStateOrBarrierLayout, ResourceType,
 };
 use pilhangko::{AllocationError, AllocationSizes, Fault, Level, Logger, MemoryLocation};
 use std::sync::{Arc, Mutex};
@@ -136,6 +136,114 @@ fn a_piece_moves_to_a_higher_heap() {
     a.free(again).unwrap();
     drop((a, other));
     device.assert_left_empty();
+}
+
+/// Four heaps of 4 MB that were full of pieces of 1 MB: 0 and 1 are left in slot 0, 4 to 6 in slot 1, 8 to 10 in slot 2, 12 and 13 in slot 3.
+/// Of several heaps with a place the one in the highest slot serves.
+struct Scene {
+    it: Defragmentation,
+    allocator: Allocator,
+    pieces: Vec<Option<Allocation>>,
+    device: FakeDevice,
+}
+
+impl Scene {
+    fn new() -> Self {
+        let device = FakeDevice::new(2, 0);
+        let mut allocator = allocator_over(&device);
+        let mut pieces: Vec<_> = (0..16).map(|_| Some(allocator.allocate(&bytes(MB, UNIT)).unwrap())).collect();
+        for gone in [2, 3, 7, 11, 14, 15] {
+            allocator.free(pieces[gone].take().unwrap()).unwrap();
+        }
+        Scene { it: Defragmentation::new(), allocator, pieces, device }
+    }
+
+    /// A frame over the pieces, the last first: of each move its key, the piece, and slot and offset of the second place.
+    fn frame(&mut self, most: u64, moves: usize) -> Vec<(MoveKey, usize, usize, u64)> {
+        let live: Vec<_> = (0..16).rev().filter(|&piece| self.pieces[piece].is_some()).collect();
+        let movables: Vec<_> = live.iter().map(|&it| (self.pieces[it].as_ref().unwrap(), bytes(MB, UNIT))).collect();
+        let questions = self.device.state().questions;
+        let opened = self.it.propose(&mut self.allocator, &movables, most, moves).unwrap();
+        assert_eq!(self.device.state().questions, questions);
+        let row = |it: &Move| (it.key(), live[it.index()], it.to().memory_block_index(), it.to().offset());
+        opened.iter().map(row).collect()
+    }
+
+    fn finish(&mut self, (key, piece, slot, offset): (MoveKey, usize, usize, u64)) {
+        let it = self.pieces[piece].as_mut().unwrap();
+        self.it.finish(&mut self.allocator, key, it).unwrap();
+        assert_eq!((it.memory_block_index(), it.offset(), it.size()), (slot, offset, MB));
+        assert!(self.allocator.is_live(it));
+    }
+
+    fn end(mut self) -> DefragmentationStatistics {
+        let told = self.it.end(&mut self.allocator).map_err(|(error, _)| error).unwrap();
+        self.pieces.into_iter().flatten().for_each(|it| self.allocator.free(it).unwrap());
+        assert_eq!(self.allocator.statistics().pieces, 0); // no second place is left
+        drop(self.allocator);
+        self.device.assert_left_empty();
+        told
+    }
+}
+
+/// Where the moves of a frame lead: the piece, slot and offset.
+fn places(moves: &[(MoveKey, usize, usize, u64)]) -> Vec<(usize, usize, u64)> {
+    moves.iter().map(|&(_, piece, slot, offset)| (piece, slot, offset)).collect()
+}
+
+/// Moves of two frames are open at once; they end in another order than they began, and a heap goes.
+#[test]
+fn moves_stay_open_over_frames() {
+    let mut s = Scene::new();
+    assert!(s.frame(MB - 1, 16).is_empty() && s.it.is_done());
+    let first = s.frame(MB + MB / 2, 16);
+    assert_eq!(places(&first), [(1, 3, 2 * MB)]); // of slot 0 the first of the list
+    let second = s.frame(8 * MB, 2); // the one that is open isn't proposed again
+    assert_eq!(places(&second), [(0, 3, 3 * MB), (6, 2, 3 * MB)]);
+    assert!(s.frame(8 * MB, 16).is_empty() && !s.it.is_done()); // all above is full, but three are open
+    assert_eq!(s.it.open().iter().map(Move::key).collect::<Vec<_>>(), [first[0].0, second[0].0, second[1].0]);
+    s.finish(second[1]);
+    s.it.abandon(&mut s.allocator, first[0].0).unwrap();
+    s.finish(second[0]);
+    assert_eq!((s.it.statistics().moves, s.device.state().heaps), (2, 4));
+    let again = s.frame(8 * MB, 16);
+    assert_eq!(places(&again), [(1, 3, 2 * MB)]); // what was abandoned is proposed anew
+    s.finish(again[0]); // slot 0 is empty
+    assert!(s.frame(8 * MB, 16).is_empty() && s.it.is_done() && s.device.state().heaps == 3);
+    let told =
+        DefragmentationStatistics { moves: 3, bytes_moved: 3 * MB, blocks_given_back: 1, bytes_given_back: 4 * MB };
+    assert_eq!(s.end(), told);
+}
+
+/// What isn't open is refused, and nothing changes; the end abandons what is open.
+#[test]
+fn a_move_that_is_not_open_does_not_end() {
+    let (mut s, mut other) = (Scene::new(), Scene::new());
+    let moves = s.frame(8 * MB, 16);
+    s.finish(moves[0]);
+    // finished before; of another piece
+    for (key, piece) in [(moves[0].0, 1), (moves[1].0, 6)] {
+        let it = s.pieces[piece].as_mut().unwrap();
+        let place = (it.memory_block_index(), it.offset());
+        assert_eq!(s.it.finish(&mut s.allocator, key, it).unwrap_err().number(), 6);
+        assert_eq!((it.memory_block_index(), it.offset(), s.allocator.is_live(it)), (place.0, place.1, true));
+    }
+    assert_eq!(s.it.abandon(&mut s.allocator, moves[0].0).unwrap_err().number(), 6);
+    // another defragmentation, and another allocator
+    assert_eq!(other.it.abandon(&mut s.allocator, moves[1].0).unwrap_err().number(), 6);
+    assert_eq!(s.it.abandon(&mut other.allocator, moves[1].0).unwrap_err().number(), 6);
+    let it = s.pieces[0].as_mut().unwrap();
+    assert_eq!(s.it.finish(&mut other.allocator, moves[1].0, it).unwrap_err().number(), 6);
+    let (error, it) = std::mem::take(&mut s.it).end(&mut other.allocator).unwrap_err();
+    assert_eq!((error.number(), it.open().len()), (6, 2));
+    s.it = it;
+    // a request in the middle of a list is no piece's
+    let list =
+        [(other.pieces[0].as_ref().unwrap(), bytes(MB, UNIT)), (other.pieces[4].as_ref().unwrap(), bytes(1, UNIT))];
+    let refused = other.it.propose(&mut other.allocator, &list, 8 * MB, 16).map(<[Move]>::len);
+    assert_eq!(refused, Err(AllocationError::InvalidAllocationCreateDesc));
+    assert_eq!((other.it.open().len(), other.allocator.statistics().pieces), (0, 10));
+    assert_eq!((s.end().moves, other.end().moves), (1, 0));
 }
 
 #[test]
@@ -454,7 +562,7 @@ fn random_calls(seed: u64, tier: u32) -> (usize, usize) {
         }
         assert_counts(&device, &allocator, &live);
     }
-    assert_apart(&live);
+    assert_apart(live.iter().filter_map(place_of));
     for it in live {
         match it {
             Live::Bare(it) => allocator.free(it).unwrap(),
@@ -482,10 +590,10 @@ fn place_of(it: &Live) -> Option<&Allocation> {
 }
 
 /// No two pieces share a byte, and each lies within its heap.
-fn assert_apart(live: &[Live]) {
+fn assert_apart<'a>(pieces: impl Iterator<Item = &'a Allocation>) {
     // SAFETY: nothing is placed there.
     let place = |it: &Allocation| (unsafe { it.heap() }, it.offset(), it.size());
-    let mut places: Vec<_> = live.iter().filter_map(place_of).map(place).collect();
+    let mut places: Vec<_> = pieces.map(place).collect();
     places.sort_unstable();
     for pair in places.windows(2) {
         let ((heap, offset, size), (other, at, _)) = (pair[0], pair[1]);
@@ -500,4 +608,93 @@ fn random_calls_hold_what_the_account_says() {
         let (made_count, refused) = random_calls(seed, tier);
         assert!(made_count > 5000 && refused > 100, "{made_count} {refused}");
     }
+}
+
+/// A piece with its number, and what asks for it.
+struct Numbered {
+    number: usize,
+    piece: Allocation,
+    wanted: AllocationCreateDesc<'static>,
+}
+
+/// Pieces, and moves that are open over frames: by key and number of the piece.
+struct Account {
+    random: Random,
+    allocator: Allocator,
+    it: Defragmentation,
+    live: Vec<Numbered>,
+    open: Vec<(MoveKey, usize)>,
+    finished: u64,
+}
+
+impl Account {
+    fn allocate(&mut self, number: usize) {
+        let wanted = bytes(1 + self.random.below(600_000), 1 << self.random.below(17));
+        let piece = self.allocator.allocate(&wanted).unwrap();
+        self.live.push(Numbered { number, piece, wanted });
+    }
+
+    /// One without an open move goes.
+    fn free(&mut self) {
+        let at = self.random.below(self.live.len() as u64) as usize;
+        if self.open.iter().all(|&(_, number)| number != self.live[at].number) {
+            self.allocator.free(self.live.swap_remove(at).piece).unwrap();
+        }
+    }
+
+    fn frame(&mut self) {
+        let movables: Vec<_> = self.live.iter().map(|it| (&it.piece, it.wanted.clone())).collect();
+        let most = self.random.below(2 * MB);
+        let opened = self.it.propose(&mut self.allocator, &movables, most, 6).unwrap();
+        assert!(opened.len() <= 6 && opened.iter().map(|one| one.to().size()).sum::<u64>() <= most);
+        for one in opened {
+            let from = &self.live[one.index()];
+            assert!(one.to().memory_block_index() > from.piece.memory_block_index());
+            assert_eq!((one.to().size(), one.to().offset() % from.wanted.alignment), (from.piece.size(), 0));
+            self.open.push((one.key(), from.number));
+        }
+    }
+
+    /// An open move is finished, or abandoned.
+    fn end_one(&mut self) {
+        let at = self.random.below(self.open.len() as u64) as usize;
+        let (key, number) = self.open.swap_remove(at);
+        if self.random.below(3) == 0 {
+            return self.it.abandon(&mut self.allocator, key).unwrap();
+        }
+        let it = self.live.iter_mut().find(|it| it.number == number).unwrap();
+        self.it.finish(&mut self.allocator, key, &mut it.piece).unwrap();
+        self.finished += 1;
+    }
+
+    fn assert_counts(&self) {
+        let pieces = self.live.iter().map(|it| &it.piece).chain(self.it.open().iter().map(Move::to));
+        assert_eq!(self.allocator.statistics().pieces, self.live.len() + self.open.len());
+        assert_eq!((self.it.open().len(), self.it.statistics().moves), (self.open.len(), self.finished));
+        assert_apart(pieces);
+    }
+}
+
+#[test]
+fn random_moves_are_counted() {
+    let device = FakeDevice::new(2, 0);
+    let (random, allocator, it) = (Random(3), allocator_over(&device), Defragmentation::new());
+    let mut a = Account { random, allocator, it, live: Vec::new(), open: Vec::new(), finished: 0 };
+    for number in 0..20_000 {
+        match a.random.below(10) {
+            0..=3 if a.live.len() < 150 => a.allocate(number),
+            4..=6 if !a.live.is_empty() => a.free(),
+            7 => a.frame(),
+            _ if !a.open.is_empty() => a.end_one(),
+            _ => {}
+        }
+        a.assert_counts();
+    }
+    let Account { mut allocator, it, live, finished, .. } = a;
+    let told = it.end(&mut allocator).map_err(|(error, _)| error).unwrap();
+    assert!(told.moves == finished && finished > 500 && told.blocks_given_back > 5, "{told:?}");
+    live.into_iter().for_each(|it| allocator.free(it.piece).unwrap());
+    assert_eq!(allocator.statistics().pieces, 0);
+    drop(allocator);
+    device.assert_left_empty();
 }

@@ -13,6 +13,8 @@ pub struct Allocation {
     pub(super) piece: HeapsPiece,
     /// The number of its allocator, which no other has, nor had.
     pub(super) owner: u64,
+    /// Its number there, which no other allocation has, nor had.
+    pub(super) number: u64,
     pub(super) heap: Interface,
     pub(super) name: String,
 }

@@ -141,6 +141,8 @@ pub struct Allocator {
     machine: Machine,
     device: ID3D12DeviceVersion,
     owner: u64,
+    /// The number of the allocation that was made last.
+    last_number: u64,
     debug_settings: AllocatorDebugSettings,
     logger: Option<Logger>,
 }
@@ -155,6 +157,7 @@ impl Allocator {
             machine: Machine::new(tier, &desc.allocation_sizes)?,
             device: desc.device.clone(),
             owner: next_owner(),
+            last_number: 0,
             debug_settings: desc.debug_settings,
             logger: desc.logger.clone(),
         })
@@ -184,7 +187,13 @@ impl Allocator {
                 Err(code) => return Err(self.machine.refused(code)),
             },
         };
-        Ok(Allocation { piece, owner: self.owner, heap: heap_of(&piece), name: own })
+        Ok(self.held(piece, own))
+    }
+
+    /// What the owner of a new piece holds of it.
+    fn held(&mut self, piece: HeapsPiece, name: String) -> Allocation {
+        self.last_number += 1;
+        Allocation { piece, owner: self.owner, number: self.last_number, heap: heap_of(&piece), name }
     }
 
     /// Frees an allocation; its heap is released where it is left empty and isn't the only shared one of its memory type. It needs no host
@@ -219,7 +228,7 @@ impl Allocator {
         let own = copied(desc.name)?;
         self.owns(allocation.owner)?;
         let Some(piece) = self.machine.propose_move(&allocation.piece, desc)? else { return Ok(None) };
-        Ok(Some(Allocation { piece, owner: self.owner, heap: heap_of(&piece), name: own }))
+        Ok(Some(self.held(piece, own)))
     }
 
     /// Renames an allocation.
@@ -415,6 +424,15 @@ impl Allocator {
                 Ok(text) => logger.log(log_level, text.trim_end()),
                 Err(_) => return logger.log(log_level, "the host refused memory for further leaks"),
             }
+        }
+    }
+
+    /// Whether an allocation is this allocator's and live.
+    pub(super) fn live(&self, allocation: &Allocation) -> Result<()> {
+        if self.is_live(allocation) {
+            Ok(())
+        } else {
+            check(NOT_LIVE)
         }
     }
 

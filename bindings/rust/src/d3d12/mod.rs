@@ -34,10 +34,12 @@
 mod abi;
 mod allocation;
 mod allocator;
+mod defragmentation;
 mod device;
 mod interface;
 mod machine;
 
+pub use crate::defragmentation::{DefragmentationStatistics, MoveKey};
 pub use crate::vulkan::TypeStatistics;
 pub use abi::{ClearValue, HeapProperties, ResourceDesc};
 pub use allocation::{Allocation, Resource};
@@ -45,5 +47,6 @@ pub use allocator::{
     AllocationCreateDesc, Allocator, AllocatorCreateDesc, CommittedAllocationStatistics, ResourceCategory,
     ResourceCreateDesc, ResourceStateOrBarrierLayout, ResourceType,
 };
+pub use defragmentation::{Defragmentation, Move};
 pub use device::ID3D12DeviceVersion;
 pub use interface::Interface;

@@ -7,6 +7,7 @@ use super::device::{Answer, Device, Purpose, Refusal};
 use super::machine::{LiveBlock, Machine, Progress, Question};
 use super::options::{AllocationOptions, Chain};
 use super::reading;
+use crate::defragmentation::propose_some;
 use crate::error::{check, copied};
 use crate::memory_type::BlockStatistics;
 use crate::pieces::Visited;
@@ -271,45 +272,7 @@ impl Allocator {
         movables: &[(&Allocation, AllocationCreateDesc<'_>)],
         bytes: u64,
     ) -> Result<Vec<(usize, Allocation)>> {
-        self.propose_some(movables, bytes, usize::MAX, |_| true)
-    }
-
-    /// Proposes moves as `propose_moves` does, so many at most, of those allocations that may move.
-    pub(super) fn propose_some(
-        &mut self,
-        movables: &[(&Allocation, AllocationCreateDesc<'_>)],
-        bytes: u64,
-        most: usize,
-        may_move: impl Fn(&Allocation) -> bool,
-    ) -> Result<Vec<(usize, Allocation)>> {
-        let (mut order, mut moves, mut left) = (Vec::new(), Vec::new(), bytes);
-        order.try_reserve_exact(movables.len())?;
-        moves.try_reserve_exact(most.min(movables.len()))?;
-        order.extend((0..movables.len()).filter(|&index| may_move(movables[index].0)));
-        order.sort_unstable_by_key(|&index| (movables[index].0.memory_block_index(), index));
-        for index in order {
-            let (allocation, desc) = &movables[index];
-            if moves.len() == most {
-                break;
-            }
-            if allocation.size() > left {
-                continue;
-            }
-            match self.propose_move(allocation, desc) {
-                Ok(None) => {}
-                Ok(Some(to)) => {
-                    left -= to.size();
-                    moves.push((index, to));
-                }
-                Err(error) => {
-                    for (_, to) in moves {
-                        self.free(to)?;
-                    }
-                    return Err(error);
-                }
-            }
-        }
-        Ok(moves)
+        propose_some(self, movables, bytes, usize::MAX, |_| true)
     }
 
     /// Renames an allocation, a null one too.

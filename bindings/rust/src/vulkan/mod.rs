@@ -52,11 +52,12 @@ pub use abi::{
 pub(crate) use allocator::{next_owner, out_of_host_memory};
 pub(crate) use machine::location_number;
 
+pub use crate::defragmentation::{DefragmentationStatistics, MoveKey};
 pub use allocation::{Allocation, AllocationBlock};
 pub use allocator::{AllocationCreateDesc, AllocationScheme, Allocator, AllocatorCreateDesc, TypeStatistics};
 pub use budgets::{Heap, HeapBudget};
 pub use capture::{Capture, CaptureEnd};
-pub use defragmentation::{Defragmentation, DefragmentationStatistics, Move, MoveKey};
+pub use defragmentation::{Defragmentation, Move};
 pub use device::{Device, DeviceLimits};
 pub use options::{AllocationOptions, Chain};
 pub use resource_abi::{
