@@ -28,6 +28,7 @@ struct binding {
     VkDeviceSize atom; /* nonCoherentAtomSize */
     struct table live;
     uint64_t last_serial, live_count;
+    size_t block_count;
     struct capture capture;
 };
 
@@ -75,21 +76,26 @@ static VkDeviceSize held_of_heap(const struct binding *b, uint32_t heap) {
     return bytes;
 }
 
-/* The bounds of memory types by which the next request is served. A trace has no heap's limit: it bounds each of the heap's memory types by what
- * the others leave. */
+/* The lesser of a bound and so many bytes. */
+static void lower(pilhangko_budget *bound, VkDeviceSize bytes) {
+    if (!bound->exists || bytes < bound->bytes) bound->bytes = bytes;
+    bound->exists = true;
+}
+
+/* The bounds of memory types by which the next request is served. A trace bounds no heaps, and not how many blocks there are: of a heap each
+ * memory type has what the others leave, and where no block may come each has what it holds. */
 static void tell_bounds(const struct binding *b, pilhangko_budget *bounds) {
+    bool has_most = false;
+    size_t most = 0;
+    if (pilhangko_allocator_most_blocks(&b->allocator, &has_most, &most) != PILHANGKO_OK) return;
     for (uint32_t i = 0; i < b->properties.memoryTypeCount; i++) {
         const uint32_t heap = b->properties.memoryTypes[i].heapIndex;
-        const pilhangko_budget none = {false, 0};
-        pilhangko_budget limit = none;
-        VkDeviceSize others, left;
-        bounds[i] = none;
+        const VkDeviceSize held = held_of_type(b, i), others = held_of_heap(b, heap) - held;
+        pilhangko_budget limit;
         if (pilhangko_allocator_budget(&b->allocator, i, &bounds[i]) != PILHANGKO_OK) return;
-        if (pilhangko_allocator_heap_limit(&b->allocator, heap, &limit) != PILHANGKO_OK || !limit.exists) continue;
-        others = held_of_heap(b, heap) - held_of_type(b, i);
-        left = limit.bytes > others ? limit.bytes - others : 0;
-        if (!bounds[i].exists || left < bounds[i].bytes) bounds[i].bytes = left;
-        bounds[i].exists = true;
+        if (pilhangko_allocator_heap_limit(&b->allocator, heap, &limit) != PILHANGKO_OK) return;
+        if (limit.exists) lower(&bounds[i], limit.bytes > others ? limit.bytes - others : 0);
+        if (has_most && b->block_count >= most) lower(&bounds[i], held);
     }
 }
 
@@ -198,6 +204,7 @@ static pilhangko_status ask(
         if (driver != VK_SUCCESS || !mapped) return mapping_refused(b, asked, driver, memory, progress);
     }
     progress->kind = PILHANGKO_PROGRESS_PIECE;
+    b->block_count++;
     return pilhangko_allocator_granted(&b->allocator, (uint64_t)memory, (uintptr_t)mapped, &progress->piece);
 }
 
@@ -276,7 +283,10 @@ static pilhangko_status free_alone(struct binding *b, const pilhangko_vulkan_all
     capture_number(&b->capture, "free", it->serial);
     make_spare(&b->live, allocation->index);
     b->live_count--;
-    if (back.exists) give_back(b, back.memory, back.mapped);
+    if (back.exists) {
+        give_back(b, back.memory, back.mapped);
+        b->block_count--;
+    }
     return PILHANGKO_OK;
 }
 
@@ -857,10 +867,12 @@ static pilhangko_allocator_settings allocator_settings(const pilhangko_vulkan_se
     return s;
 }
 
-static pilhangko_status create_allocator(struct binding *b, const pilhangko_allocator_settings *settings) {
+/* Makes the allocator, with at most as many blocks as the driver grants. */
+static pilhangko_status create_allocator(struct binding *b, const pilhangko_allocator_settings *settings, uint32_t most_blocks) {
     const VkPhysicalDeviceMemoryProperties *p = &b->properties;
     pilhangko_device_memory_type types[VK_MAX_MEMORY_TYPES];
     pilhangko_device_heap heaps[VK_MAX_MEMORY_HEAPS];
+    pilhangko_status status;
     if (p->memoryTypeCount > VK_MAX_MEMORY_TYPES) return PILHANGKO_TOO_MANY_TYPES;
     if (p->memoryHeapCount > VK_MAX_MEMORY_HEAPS) return PILHANGKO_VULKAN_TOO_MANY_HEAPS;
     for (uint32_t i = 0; i < p->memoryTypeCount; i++) {
@@ -871,7 +883,9 @@ static pilhangko_status create_allocator(struct binding *b, const pilhangko_allo
         heaps[i].size = p->memoryHeaps[i].size;
         heaps[i].flags = p->memoryHeaps[i].flags;
     }
-    return pilhangko_allocator_create(&b->allocator, types, p->memoryTypeCount, heaps, p->memoryHeapCount, settings);
+    status = pilhangko_allocator_create(&b->allocator, types, p->memoryTypeCount, heaps, p->memoryHeapCount, settings);
+    if (status != PILHANGKO_OK || most_blocks == 0) return status;
+    return pilhangko_allocator_set_most_blocks(&b->allocator, true, most_blocks);
 }
 
 static void keep_settings(struct binding *b, const pilhangko_vulkan_settings *settings) {
@@ -907,7 +921,7 @@ static pilhangko_status begin_binding(struct binding *b, const pilhangko_vulkan_
     b->atom = device.limits.nonCoherentAtomSize;
     s = allocator_settings(settings, device.limits.bufferImageGranularity);
     if (!is_power_of_two(b->atom)) return PILHANGKO_VULKAN_INVALID_ATOM_SIZE;
-    status = create_allocator(b, &s);
+    status = create_allocator(b, &s, device.limits.maxMemoryAllocationCount);
     if (status == PILHANGKO_OK && is_captured(b)) capture_device(&b->capture, &b->properties, &s);
     return status;
 }

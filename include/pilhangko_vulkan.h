@@ -97,7 +97,8 @@ typedef struct pilhangko_vulkan_settings {
     bool externally_synchronized;         /* whether the caller sees to it that one call is made at a time: no lock is taken */
 } pilhangko_vulkan_settings;
 
-/* Makes a binding without blocks in an empty handle. It asks the driver for the device's properties, and for no memory.
+/* Makes a binding without blocks in an empty handle. It asks the driver for the device's properties, and for no memory. It has no more blocks
+ * than maxMemoryAllocationCount (BUDGET_EXCEEDED where one more would be needed), unless that is 0.
  * NULL_POINTER: a pointer or a handle. IN_USE: the handle isn't empty. NO_FUNCTION. HOST_OUT_OF_MEMORY: the binding's own. Of what the
  * driver tells: VULKAN_INVALID_ATOM_SIZE. TOO_MANY_TYPES. VULKAN_TOO_MANY_HEAPS. INVALID_DEVICE: bufferImageGranularity is no power of two.
  * NO_SUCH_HEAP. HOST_OUT_OF_MEMORY. */
@@ -522,7 +523,7 @@ PILHANGKO_NODISCARD PILHANGKO_API pilhangko_status PILHANGKO_CALL pilhangko_vulk
 
 /* Limits the sum of the sizes of the blocks of all memory types that lie in a heap, or takes the limit away; and the limit, none where the heap has
  * none or isn't there. As with a pilhangko_allocator. (A trace has no limits: a capture bounds each memory type of the heap by what the others
- * leave, as it changes, and so is refused the same.)
+ * leave, as it changes, and so its requests are refused the same.)
  * NULL_POINTER. NO_HANDLE. And of set_heap_limit, PILHANGKO_VULKAN_NO_SUCH_HEAP. */
 PILHANGKO_NODISCARD PILHANGKO_API pilhangko_status PILHANGKO_CALL pilhangko_vulkan_set_heap_limit(
     pilhangko_vulkan *vulkan, uint32_t heap, bool has_limit, VkDeviceSize bytes);

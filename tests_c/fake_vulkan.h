@@ -47,6 +47,7 @@ static struct {
     uint32_t type_bits; /* what buffers and images may take */
     uint32_t type_count, heap_count;
     VkDeviceSize atom, granularity, usage, budget;
+    uint32_t most_memories; /* maxMemoryAllocationCount; 0 for no bound */
     uint64_t flushes, invalidations;
     VkMappedMemoryRange range; /* of the latest flush or invalidation */
     const void *callbacks_user;
@@ -157,6 +158,7 @@ static VKAPI_ATTR VkResult VKAPI_CALL fake_allocate(
     CHECK(device && info->sType == VK_STRUCTURE_TYPE_MEMORY_ALLOCATE_INFO && info->allocationSize > 0);
     CHECK(info->memoryTypeIndex < fake.type_count && fake.memory_count < FAKE_THINGS);
     CHECK(info->allocationSize <= fake_heaps[fake_types[info->memoryTypeIndex].heapIndex].size);
+    CHECK(fake.most_memories == 0 || fake.memory_count < fake.most_memories);
     if (fake.asked_count < FAKE_ASKED) fake.asked[fake.asked_count++] = info->memoryTypeIndex;
     fake_callbacks(callbacks);
     fake_read_chain(info, &made);
@@ -335,6 +337,7 @@ static VKAPI_ATTR void VKAPI_CALL fake_properties(VkPhysicalDevice device, VkPhy
     memset(properties, 0, sizeof *properties);
     properties->limits.bufferImageGranularity = fake.granularity;
     properties->limits.nonCoherentAtomSize = fake.atom;
+    properties->limits.maxMemoryAllocationCount = fake.most_memories;
 }
 
 static VKAPI_ATTR void VKAPI_CALL fake_memory_properties(VkPhysicalDevice device, VkPhysicalDeviceMemoryProperties *properties) {

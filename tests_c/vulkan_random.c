@@ -51,14 +51,17 @@ static uint64_t held_in(size_t heap) {
     return bytes;
 }
 
-/* The bound of a memory type: its own, or what the other memory types of its heap leave of that heap's limit. */
+/* The bound of a memory type: its own, what the other memory types of its heap leave of that heap's limit, or what it has where no block may
+ * come; the least of these. */
 static pilhangko_budget bound_of(size_t type) {
     const size_t heap = account.heap[type];
-    const uint64_t others = held_in(heap) - type_capacity(&account.types[type]), limit = account.limit[heap];
-    pilhangko_budget bound = {account.types[type].has_budget, account.types[type].has_budget ? account.types[type].budget : 0};
-    if (!account.has_limit[heap]) return bound;
-    if (!bound.exists || bound.bytes > (limit > others ? limit - others : 0)) bound.bytes = limit > others ? limit - others : 0;
-    bound.exists = true;
+    const uint64_t has = type_capacity(&account.types[type]), others = held_in(heap) - has, limit = account.limit[heap];
+    uint64_t least = account.types[type].has_budget ? account.types[type].budget : UINT64_MAX;
+    const bool is_full = account.has_most && block_count(&account) >= account.most_blocks;
+    if (account.has_limit[heap] && least > (limit > others ? limit - others : 0)) least = limit > others ? limit - others : 0;
+    if (is_full && least > has) least = has;
+    const bool exists = account.types[type].has_budget || account.has_limit[heap] || is_full;
+    const pilhangko_budget bound = {exists, exists ? least : 0};
     return bound;
 }
 
@@ -810,9 +813,12 @@ static bool writes(void *user, const char *bytes, size_t length) {
     return fwrite(bytes, 1, length, (FILE *)user) == length;
 }
 
-static void begins(FILE *capture) {
+static void begins(FILE *capture, uint32_t most_blocks) {
     pilhangko_vulkan_settings settings = fake_settings();
     fake_begin();
+    fake.most_memories = most_blocks;
+    account.has_most = most_blocks > 0;
+    account.most_blocks = most_blocks;
     settings.buffer_device_address = settings.memory_budget = true;
     settings.capture_write = capture ? writes : NULL;
     settings.capture_user = capture;
@@ -865,7 +871,7 @@ static void captured_run(const char *capture_name, const char *replies_name) {
     replies = fopen(replies_name, "wb");
     CHECK(capture && replies);
     random_state = 77;
-    begins(capture);
+    begins(capture, 12);
     for (unsigned i = 0; i < 6000; i++) step();
     ends();
     CHECK(fclose(capture) == 0 && fclose(replies) == 0);
@@ -875,7 +881,7 @@ static void captured_run(const char *capture_name, const char *replies_name) {
 int main(int count, char **words) {
     for (unsigned run = 0; run < 4; run++) {
         random_state = run;
-        begins(NULL);
+        begins(NULL, run % 2 * 12);
         for (unsigned i = 0; i < 50000; i++) step();
         ends();
     }

@@ -469,6 +469,35 @@ static void features(void) {
     ends(&vulkan);
 }
 
+/* ---- how many blocks there may be, of all memory types together */
+
+static void most_blocks(void) {
+    pilhangko_vulkan vulkan = {0};
+    const pilhangko_vulkan_settings settings = fake_settings();
+    const pilhangko_vulkan_request shared = asks(100, 4, 1, PILHANGKO_LOCATION_GPU_ONLY), host = asks(100, 4, 2, PILHANGKO_LOCATION_UNKNOWN),
+                                   staging = by_flags(100, 6, 0, 9), upload = asks(100, 4, 6, PILHANGKO_LOCATION_CPU_TO_GPU);
+    pilhangko_vulkan_request own = shared;
+    fake_begin();
+    fake.most_memories = 2;
+    own.next = &priority;
+    IS(pilhangko_vulkan_create(&vulkan, &settings), PILHANGKO_OK);
+    const pilhangko_vulkan_allocation a = allocates(&vulkan, &shared), b = allocates(&vulkan, &own), c = allocates(&vulkan, &shared);
+    CHECK(c.memory == a.memory && fake.memory_count == 2);
+    const uint64_t questions = fake.questions;
+    is_refused(&vulkan, &own, PILHANGKO_BUDGET_EXCEEDED);
+    is_refused(&vulkan, &host, PILHANGKO_BUDGET_EXCEEDED);
+    is_refused(&vulkan, &upload, PILHANGKO_BUDGET_EXCEEDED);
+    is_refused(&vulkan, &staging, PILHANGKO_BUDGET_EXCEEDED);
+    CHECK(fake.questions == questions);
+    frees(&vulkan, &b);
+    const pilhangko_vulkan_allocation d = allocates(&vulkan, &staging);
+    CHECK(d.piece.memory_type == 1 && fake.memory_count == 2);
+    frees(&vulkan, &a);
+    frees(&vulkan, &c);
+    frees(&vulkan, &d);
+    ends(&vulkan);
+}
+
 /* ---- in captures: what the allocator is asked for */
 
 static char written[2000];
@@ -528,6 +557,24 @@ static void captured_flags(void) {
                           "free 1\nfree 2\nfree 3\ndestroy\n"));
 }
 
+/* Where no block may come each memory type is bounded by what it holds. */
+static void captured_counts(void) {
+    pilhangko_vulkan vulkan = {0};
+    pilhangko_vulkan_settings settings = fake_settings();
+    const pilhangko_vulkan_request device = asks(100, 4, 1, PILHANGKO_LOCATION_GPU_ONLY), host = asks(100, 4, 2, PILHANGKO_LOCATION_UNKNOWN);
+    fake_begin();
+    fake.most_memories = 1;
+    written[0] = 0;
+    settings.capture_write = takes;
+    IS(pilhangko_vulkan_create(&vulkan, &settings), PILHANGKO_OK);
+    const pilhangko_vulkan_allocation a = allocates(&vulkan, &device);
+    is_refused(&vulkan, &host, PILHANGKO_BUDGET_EXCEEDED);
+    frees(&vulkan, &a); /* the only shared block stays */
+    ends(&vulkan);
+    CHECK(!strcmp(strstr(written, "new\n"), "new\nalloc 1 100 4 1 GpuOnly linear managed row\nbudget 0 4194304\nbudget 1 0\nbudget 2 0\n"
+                                            "budget 3 0\nbudget 4 0\nalloc 2 100 4 2 Unknown linear managed row\nfree 1\ndestroy\n"));
+}
+
 int main(void) {
     alignment_rows();
     type_rows();
@@ -544,7 +591,9 @@ int main(void) {
     own_locations();
     invalid_flags();
     features();
+    most_blocks();
     captured();
     captured_flags();
+    captured_counts();
     return 0;
 }

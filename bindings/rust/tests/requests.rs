@@ -567,6 +567,39 @@ fn memory_types_of_a_heap_share_its_limit() {
     driver.assert_left_empty();
 }
 
+/// Of all memory types together there are no more blocks than the driver grants; a capture has what is held where none may come.
+#[test]
+fn blocks_are_no_more_than_the_driver_grants() {
+    let driver = FakeDriver::new(&TYPES, &HEAPS, 1024).with_most_memories(2);
+    let desc = AllocatorCreateDesc {
+        allocation_sizes: AllocationSizes::new(4 * MB, 4 * MB),
+        capture: true,
+        ..AllocatorCreateDesc::new(driver.device())
+    };
+    let mut a = Allocator::new(&desc).unwrap();
+    let wanted = request(100, 4, 1, MemoryLocation::Unknown);
+    let own =
+        AllocationCreateDesc { allocation_scheme: AllocationScheme::DedicatedBuffer(Buffer(7)), ..wanted.clone() };
+    let [first, alone, second] = [&wanted, &own, &wanted].map(|it| a.allocate(it).unwrap());
+    assert_eq!((memory(&second), driver.state().held.len()), (memory(&first), 2));
+    let host = request(100, 4, 2, MemoryLocation::Unknown);
+    for refused in [&own, &host] {
+        assert_eq!(a.allocate(refused).map(|_| ()), Err(AllocationError::BudgetExceeded));
+    }
+    a.free(alone).unwrap();
+    let third = a.allocate(&host).unwrap();
+    assert_eq!(driver.state().questions, 4);
+    [first, second, third].into_iter().for_each(|it| a.free(it).unwrap());
+    let trace = a.destroy().unwrap().to_string();
+    let expected = "alloc 1 100 4 1 Unknown linear managed piece\nalloc 2 100 4 1 Unknown linear buffer:7 piece\n\
+        budget 0 4194404\nbudget 1 0\nbudget 2 0\nbudget 3 0\nalloc 3 100 4 1 Unknown linear managed piece\n\
+        alloc 4 100 4 1 Unknown linear buffer:7 piece\nalloc 5 100 4 2 Unknown linear managed piece\nfree 2\n\
+        budget 0 none\nbudget 1 none\nbudget 2 none\nbudget 3 none\nalloc 6 100 4 2 Unknown linear managed piece\n\
+        free 1\nfree 3\nfree 6\nbudget 0 4194304\nbudget 1 4194304\nbudget 2 0\nbudget 3 0\ndestroy\n";
+    assert_eq!(trace.split_once("new\n").unwrap().1, expected);
+    driver.assert_left_empty();
+}
+
 #[test]
 fn an_allocation_keeps_a_word() {
     let driver = driver();

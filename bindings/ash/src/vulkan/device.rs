@@ -31,6 +31,7 @@ pub(super) unsafe fn device_of(
     let limits = DeviceLimits {
         buffer_image_granularity: limits.buffer_image_granularity,
         non_coherent_atom_size: limits.non_coherent_atom_size,
+        max_memory_allocation_count: limits.max_memory_allocation_count,
     };
     // SAFETY: as the caller promises
     Ok(unsafe { Device::new(handle.as_raw(), functions, told(&memory), limits) })

@@ -112,7 +112,7 @@ struct Message {
     text: *const c_char,
 }
 
-/// `VkPhysicalDeviceProperties`, of which the name and two limits are read.
+/// `VkPhysicalDeviceProperties`, of which the name and three limits are read.
 #[repr(C)]
 struct PhysicalDeviceProperties {
     numbers: [u32; 5],
@@ -231,7 +231,11 @@ impl Vulkan {
             messenger: 0,
             physical_device: null_mut(),
             device: null_mut(),
-            limits: DeviceLimits { buffer_image_granularity: 1, non_coherent_atom_size: 1 },
+            limits: DeviceLimits {
+                buffer_image_granularity: 1,
+                non_coherent_atom_size: 1,
+                max_memory_allocation_count: 0,
+            },
             messages: Box::default(),
         };
         vulkan.validates = vulkan.has_validation();
@@ -332,7 +336,9 @@ impl Vulkan {
             tell(self.physical_device, &mut properties);
             self.device_name = CStr::from_ptr(properties.name.as_ptr()).to_string_lossy().into_owned();
             let PhysicalDeviceProperties { buffer_image_granularity, non_coherent_atom_size, .. } = properties;
-            self.limits = DeviceLimits { buffer_image_granularity, non_coherent_atom_size };
+            let max_memory_allocation_count = properties.first_limits[9];
+            self.limits =
+                DeviceLimits { buffer_image_granularity, non_coherent_atom_size, max_memory_allocation_count };
         }
         Some(())
     }

@@ -102,8 +102,8 @@ impl Allocator {
         self.machine.heap_limit(heap)
     }
 
-    /// Notes the bounds of memory types by which the next request is served, where it is captured: a heap's limit bounds each of its memory types
-    /// by what the others leave.
+    /// Notes the bounds of memory types by which the next request is served, where it is captured. A trace bounds no heaps, and not how many blocks
+    /// there are: of a heap each memory type has what the others leave, and where no block may come each has what it holds.
     pub(super) fn note_bounds(&mut self) {
         let Some(mut capture) = self.capture.take() else { return };
         capture.bounded((0..self.device().memory_types().len()).map(|index| self.bound_of(index)));
@@ -112,11 +112,10 @@ impl Allocator {
 
     fn bound_of(&self, index: usize) -> Option<u64> {
         let heap = self.device().memory_types()[index].heap_index as usize;
-        let left = self.heap_limit(heap).map(|limit| {
-            let others = self.held_in(heap) - self.type_capacity(index).unwrap_or(0);
-            limit.saturating_sub(others)
-        });
-        [self.budget(index), left].into_iter().flatten().min()
+        let held = self.type_capacity(index).unwrap_or(0);
+        let left = self.heap_limit(heap).map(|limit| limit.saturating_sub(self.held_in(heap) - held));
+        let full = self.machine.is_full().then_some(held);
+        [self.budget(index), left, full].into_iter().flatten().min()
     }
 
     /// The sum of the sizes of a heap's blocks.

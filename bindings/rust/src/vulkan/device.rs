@@ -16,13 +16,15 @@ use std::ffi::c_void;
 use std::ops::Range;
 use std::ptr::{self, NonNull};
 
-/// Two limits of a device, by their names in `VkPhysicalDeviceLimits`.
+/// Limits of a device, by their names in `VkPhysicalDeviceLimits`.
 #[derive(Clone, Copy, Debug, PartialEq, Eq)]
 pub struct DeviceLimits {
     /// `bufferImageGranularity`: the size in bytes of a page that buffers and images may not share.
     pub buffer_image_granularity: u64,
     /// `nonCoherentAtomSize`: the unit in bytes of what is flushed and invalidated.
     pub non_coherent_atom_size: u64,
+    /// `maxMemoryAllocationCount`: how many blocks there may be; 0 for any number.
+    pub max_memory_allocation_count: u32,
 }
 
 /// A Vulkan device as an allocator needs it: the handle, six functions, and what the physical device says of its memory. Clones stand for

@@ -89,6 +89,7 @@ fn raw_request(desc: &AllocationCreateDesc<'_>) -> raw::AllocatorRequest {
 pub(super) struct Machine {
     handle: Handle,
     device: Device,
+    blocks: usize,
 }
 
 impl Machine {
@@ -114,7 +115,14 @@ impl Machine {
                 &settings,
             )
         })?;
-        Ok(Machine { handle, device: device.clone() })
+        let machine = Machine { handle, device: device.clone(), blocks: 0 };
+        if let Some(most) = machine.most_blocks() {
+            // SAFETY: the handle is this machine's alone.
+            check_unrefused(unsafe {
+                raw::pilhangko_raw_allocator_set_most_blocks(machine.handle.as_ptr(), true, most)
+            });
+        }
+        Ok(machine)
     }
 
     /// The device.
@@ -159,8 +167,20 @@ impl Machine {
         Ok(Progress::from_raw(&progress))
     }
 
+    /// How many blocks there may be, where that is bounded.
+    fn most_blocks(&self) -> Option<usize> {
+        let most = self.device.limits().max_memory_allocation_count as usize;
+        (most > 0).then_some(most)
+    }
+
+    /// Whether no block may come.
+    pub(super) fn is_full(&self) -> bool {
+        self.most_blocks().is_some_and(|most| self.blocks >= most)
+    }
+
     /// The driver granted this memory. A question is open.
     pub(super) fn granted(&mut self, memory: Memory) -> AllocatorPiece {
+        self.blocks += 1;
         let mut piece = AllocatorPiece::default();
         let address = memory.address.map_or(0, Address::number);
         // SAFETY: the handle is this machine's alone.
@@ -199,6 +219,7 @@ impl Machine {
         // SAFETY: the handle is this machine's alone, and the piece outlives the call.
         check(unsafe { raw::pilhangko_raw_allocator_free(self.handle.as_ptr(), piece, &mut back) })?;
         if back.exists {
+            self.blocks -= 1;
             self.device.give_back(memory_of(back.memory, back.address));
         }
         Ok(())

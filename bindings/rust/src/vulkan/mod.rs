@@ -8,11 +8,15 @@
 //! };
 //! use pilhangko::MemoryLocation;
 //! # fn function_of(_: &std::ffi::CStr) -> Option<VoidFunction> { None }
-//! # let (handle, properties, granularity, atom) = (1, PhysicalDeviceMemoryProperties::default(), 1, 1);
+//! # let (handle, properties, granularity, atom, most) = (1, PhysicalDeviceMemoryProperties::default(), 1, 1, 4096);
 //!
 //! // SAFETY: functions, properties, limits and handle are those of one live device, which outlives the allocator.
 //! let functions = unsafe { DeviceFunctions::load(function_of) }.expect("Vulkan 1.0 has these functions");
-//! let limits = DeviceLimits { buffer_image_granularity: granularity, non_coherent_atom_size: atom };
+//! let limits = DeviceLimits {
+//!     buffer_image_granularity: granularity,
+//!     non_coherent_atom_size: atom,
+//!     max_memory_allocation_count: most,
+//! };
 //! let device = unsafe { Device::new(handle, functions, properties, limits) };
 //! let mut allocator = Allocator::new(&AllocatorCreateDesc::new(device))?;
 //! let mut upload = allocator.allocate(&AllocationCreateDesc {

@@ -37,8 +37,9 @@ pub struct Account {
     pub atom: u64,
     pub sizes: AllocationSizes,
     pub budgets: Vec<Option<u64>>,
-    /// The limits of heaps.
+    /// The limits of heaps, and how many blocks there may be.
     pub limits: Vec<Option<u64>>,
+    pub most: Option<usize>,
     /// Blocks by memory type and slot.
     pub blocks: Vec<Vec<Option<Block>>>,
 }
@@ -59,6 +60,7 @@ impl Account {
             sizes,
             budgets: vec![None; types.len()],
             limits: vec![None; heaps.len()],
+            most: None,
             blocks: vec![Vec::new(); types.len()],
         }
     }
@@ -100,12 +102,15 @@ impl Account {
         (0..self.types.len()).filter(|&index| self.types[index].1 as usize == heap).map(|index| self.held(index)).sum()
     }
 
-    /// What bounds a memory type: its budget, or what the other memory types of its heap leave of that heap's limit.
+    /// What bounds a memory type: its budget, what the other memory types of its heap leave of that heap's limit, or what it holds where no block
+    /// may come.
     pub fn bound(&self, memory_type: usize) -> Option<u64> {
         let heap = self.types[memory_type].1 as usize;
         let others = self.held_in(heap) - self.held(memory_type);
         let left = self.limits[heap].map(|limit| limit.saturating_sub(others));
-        [self.budgets[memory_type], left].into_iter().flatten().min()
+        let count = self.blocks.iter().flatten().flatten().count();
+        let full = self.most.is_some_and(|most| count >= most).then(|| self.held(memory_type));
+        [self.budgets[memory_type], left, full].into_iter().flatten().min()
     }
 
     pub fn capacity(&self) -> u64 {

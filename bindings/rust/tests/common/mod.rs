@@ -179,13 +179,23 @@ impl FakeDriver {
         for (place, &size) in properties.memory_heaps.iter_mut().zip(heaps) {
             *place = MemoryHeap { size, flags: 0 };
         }
-        let limits = DeviceLimits { buffer_image_granularity: granularity, non_coherent_atom_size: 1 };
+        let limits = DeviceLimits {
+            buffer_image_granularity: granularity,
+            non_coherent_atom_size: 1,
+            max_memory_allocation_count: 0,
+        };
         Box::new(FakeDriver { state: Mutex::default(), properties, limits })
     }
 
     /// The driver with atoms of this size.
     pub fn with_atoms(mut self: Box<Self>, size: u64) -> Box<Self> {
         self.limits.non_coherent_atom_size = size;
+        self
+    }
+
+    /// The driver, which grants so many memories at once.
+    pub fn with_most_memories(mut self: Box<Self>, count: u32) -> Box<Self> {
+        self.limits.max_memory_allocation_count = count;
         self
     }
 

@@ -143,7 +143,10 @@ fn reply_of(it: &Allocation) -> Reply {
 
 impl Script {
     pub fn new(seed: u64, is_captured: bool) -> Self {
-        let driver = FakeDriver::new(&TYPES, &HEAPS, PAGE).with_atoms(ATOM);
+        // on odd runs the driver grants so many memories at once
+        let most = (seed % 2 == 1).then_some(25);
+        let driver =
+            FakeDriver::new(&TYPES, &HEAPS, PAGE).with_atoms(ATOM).with_most_memories(most.unwrap_or(0) as u32);
         let sizes = AllocationSizes::new(8 * MB, 4 * MB).with_max_device_memblock_size(32 * MB);
         let desc = AllocatorCreateDesc {
             allocation_sizes: sizes,
@@ -153,7 +156,7 @@ impl Script {
         };
         Script {
             allocator: Allocator::new(&desc).expect("the device makes sense"),
-            account: Account::new(&TYPES, &HEAPS, PAGE, ATOM, sizes),
+            account: Account { most, ..Account::new(&TYPES, &HEAPS, PAGE, ATOM, sizes) },
             random: Random(seed),
             live: Vec::new(),
             replies: vec!["ok".to_owned()],
