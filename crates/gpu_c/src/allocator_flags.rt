@@ -14,7 +14,8 @@ use crate::mapped_memory::MappedMemory;
 use crate::refusal::refusal_status;
 use crate::status::{AWAITS_ANSWER, INVALID, OK};
 use gpu_device::vulkan::MemoryPropertyFlags;
-use gpu_machine::vulkan::{Machine, Preference};
+use gpu_machine::vulkan::Machine;
+use gpu_vulkan::Preference;
 
 /// The flags that C says.
 fn preference_of(said: &AllocatorPreference) -> Preference

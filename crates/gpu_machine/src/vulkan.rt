@@ -11,5 +11,4 @@ mod refusal;
 mod told;
 
 pub use answer::{Allocated, LiveBlock, MemoryBack, Progress, Question};
-pub use gpu_vulkan::Preference;
 pub use machine::Machine;
