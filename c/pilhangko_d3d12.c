@@ -196,6 +196,18 @@ static pilhangko_status free_allocation(struct binding *binding, const pilhangko
     return status;
 }
 
+pilhangko_status PILHANGKO_CALL pilhangko_d3d12_free_counted(
+    pilhangko_d3d12 *d3d12, const pilhangko_d3d12_allocation *allocation, uint64_t *bytes) {
+    struct binding *b = enter(binding_of(d3d12));
+    uint64_t before = 0, behind = 0;
+    pilhangko_status status = pilhangko_heaps_capacity(&b->heaps, &before);
+    if (status == PILHANGKO_OK) status = free_alone(b, allocation);
+    if (status == PILHANGKO_OK) status = pilhangko_heaps_capacity(&b->heaps, &behind);
+    leave(b);
+    if (status == PILHANGKO_OK) *bytes = before - behind;
+    return status;
+}
+
 static pilhangko_status propose_alone(struct binding *b, const pilhangko_d3d12_allocation *from, const pilhangko_d3d12_request *request,
     bool *moves, pilhangko_d3d12_allocation *to) {
     const pilhangko_heaps_request asks = asks_for(request);

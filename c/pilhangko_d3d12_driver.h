@@ -1,4 +1,4 @@
-/* What the files of Pilhangko's DirectX 12 binding share: results, and the driver's calls. Not for its users.
+/* What the files of Pilhangko's DirectX 12 binding share: results, moves, and the driver's calls. Not for its users.
  *
  * Interfaces are called by the numbers of their functions, which never change: so C and C++ call them in one way, and those that are newer
  * than the program's headers can be called too. */
@@ -22,6 +22,12 @@ static inline pilhangko_d3d12_result result_of(pilhangko_status status, HRESULT 
 static inline pilhangko_d3d12_result undriven(pilhangko_status status) {
     return result_of(status, S_OK);
 }
+
+/* ---- moves ---- */
+
+#define NAMED(rest) pilhangko_d3d12##rest
+#define BYTES_OF(request) ((request)->size)
+#include "pilhangko_moves.h"
 
 /* ---- interfaces ---- */
 

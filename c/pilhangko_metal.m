@@ -4,6 +4,10 @@
 #include "pilhangko_capture.h"
 #include "pilhangko_shared.h"
 
+#define NAMED(rest) pilhangko_metal##rest
+#define BYTES_OF(request) ((request)->size)
+#include "pilhangko_moves.h"
+
 /* ---- references ---- */
 
 /* The allocator keeps objects as numbers, and so does the binding: each stands for one reference. */
@@ -279,6 +283,18 @@ static pilhangko_status free_allocation(struct binding *binding, const pilhangko
     struct binding *b = enter(binding);
     const pilhangko_status status = free_alone(b, allocation);
     leave(b);
+    return status;
+}
+
+pilhangko_status PILHANGKO_CALL pilhangko_metal_free_counted(
+    pilhangko_metal *metal, const pilhangko_metal_allocation *allocation, uint64_t *bytes) {
+    struct binding *b = enter(binding_of(metal));
+    uint64_t before = 0, behind = 0;
+    pilhangko_status status = pilhangko_metal_heaps_capacity(&b->heaps, &before);
+    if (status == PILHANGKO_OK) status = free_alone(b, allocation);
+    if (status == PILHANGKO_OK) status = pilhangko_metal_heaps_capacity(&b->heaps, &behind);
+    leave(b);
+    if (status == PILHANGKO_OK) *bytes = before - behind;
     return status;
 }
 

@@ -1,5 +1,4 @@
-/* What the files of Pilhangko's Vulkan binding share: results, a free that counts, a move within a frame's bytes, and the driver's calls for a
- * buffer or an image. Not for its users. */
+/* What the files of Pilhangko's Vulkan binding share: results, moves, and the driver's calls for a buffer or an image. Not for its users. */
 #ifndef PILHANGKO_VULKAN_RESOURCE_H
 #define PILHANGKO_VULKAN_RESOURCE_H
 
@@ -17,26 +16,9 @@ static inline pilhangko_vulkan_result undriven(pilhangko_status status) {
     return result_of(status, VK_SUCCESS);
 }
 
-#ifdef __cplusplus
-extern "C" {
-#endif
-/* As pilhangko_vulkan_free of a handle that isn't empty, and says how many bytes of the driver's went back with it: those of the block, or 0. */
-pilhangko_status PILHANGKO_CALL pilhangko_vulkan_free_counted(
-    pilhangko_vulkan *vulkan, const pilhangko_vulkan_allocation *allocation, VkDeviceSize *bytes);
-#ifdef __cplusplus
-}
-#endif
-
-/* Proposes a move, if it keeps within the bytes that are left. */
-static inline pilhangko_status propose_within(
-    pilhangko_vulkan *vulkan, const pilhangko_vulkan_movable *it, VkDeviceSize *bytes, bool *moves, pilhangko_vulkan_allocation *to) {
-    pilhangko_status status;
-    *moves = false;
-    if (it->request.requirements.size > *bytes) return PILHANGKO_OK;
-    status = pilhangko_vulkan_propose_move(vulkan, &it->allocation, &it->request, moves, to);
-    if (status == PILHANGKO_OK && *moves) *bytes -= to->size;
-    return status;
-}
+#define NAMED(rest) pilhangko_vulkan##rest
+#define BYTES_OF(request) ((request)->requirements.size)
+#include "pilhangko_moves.h"
 
 /* A buffer or an image: the other one is null. */
 struct resource {

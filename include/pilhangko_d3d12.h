@@ -1,10 +1,10 @@
 /* Pilhangko's DirectX 12 binding: heaps, buffers and textures of an ID3D12Device, placed by a pilhangko_heaps.
  *
  * The binding asks the driver for heaps and resources; the allocator keeps the heaps, and says where each piece lies (pilhangko.h). Compile
- * c/pilhangko_d3d12.c and c/pilhangko_heap.c with the program (and c/pilhangko_d3d12_ring.c where it has rings), and link libgpu_c.a. It
- * calls interfaces alone, so it links no library of Direct3D; its own host memory is malloc's. The program includes its Direct3D headers
- * first (d3d12.h of the Windows SDK, of mingw-w64 or of directx-headers, or vkd3d.h); without one this header includes d3d12.h on Windows
- * and vkd3d_d3d12.h elsewhere.
+ * c/pilhangko_d3d12.c and c/pilhangko_heap.c with the program (c/pilhangko_d3d12_ring.c, too, where it has rings, and
+ * c/pilhangko_d3d12_defragment.c where moves stay open over frames), and link libgpu_c.a. It calls interfaces alone, so it links no library of
+ * Direct3D; its own host memory is malloc's. The program includes its Direct3D headers first (d3d12.h of the Windows SDK, of mingw-w64 or of
+ * directx-headers, or vkd3d.h); without one this header includes d3d12.h on Windows and vkd3d_d3d12.h elsewhere.
  *
  * Handles. A pilhangko_d3d12 is one pointer that begins zeroed, as in `pilhangko_d3d12 d3d12 = {0};`, and keeps the rules of the handles of
  * pilhangko.h: it is never copied. But any threads may call it at once: it has a lock, which externally_synchronized leaves out; create and
@@ -159,6 +159,66 @@ PILHANGKO_NODISCARD PILHANGKO_API pilhangko_status PILHANGKO_CALL pilhangko_d3d1
  * name, or a size that isn't the allocation's. HOST_OUT_OF_MEMORY. */
 PILHANGKO_NODISCARD PILHANGKO_API pilhangko_status PILHANGKO_CALL pilhangko_d3d12_propose_move(pilhangko_d3d12 *d3d12,
     const pilhangko_d3d12_allocation *from, const pilhangko_d3d12_request *request, bool *moves, pilhangko_d3d12_allocation *to);
+
+/* An allocation that may move, and the request that it was made by (of a placed resource the one
+ * that pilhangko_d3d12_read_request tells). */
+typedef struct pilhangko_d3d12_movable {
+    pilhangko_d3d12_allocation allocation;
+    pilhangko_d3d12_request request;
+} pilhangko_d3d12_movable;
+
+/* A move that is open: of which allocation of the table, and its second place. */
+typedef struct pilhangko_d3d12_move {
+    size_t index;
+    pilhangko_d3d12_allocation to;
+} pilhangko_d3d12_move;
+
+/* Moves that stay open over frames, and what came of those that were finished. It begins zeroed, as in `pilhangko_d3d12_defragmentation it = {0};`,
+ * and its fields are only read. While moves are open it is one binding's, and holds host memory: end it then. It has no lock: it is given to one
+ * call at a time, on any thread. Other threads may call the binding meanwhile, whose own lock holds, but do nothing with the allocations of open
+ * moves. (c/pilhangko_d3d12_defragment.c) */
+typedef struct pilhangko_d3d12_defragmentation {
+    size_t open; /* moves that are neither finished nor abandoned */
+    bool done;   /* whether the last propose found no move while none was open */
+    uint64_t moves_finished;
+    UINT64 bytes_moved;         /* the sum of their sizes */
+    uint64_t blocks_given_back; /* heaps that went back to the device as finish freed first places */
+    UINT64 bytes_given_back;    /* the sum of their sizes */
+    struct pilhangko_d3d12_open_move *open_moves; /* the library's own, as are the next two */
+    size_t room;
+    const void *binding;
+} pilhangko_d3d12_defragmentation;
+
+/* Proposes the moves of a frame, as pilhangko_d3d12_propose_move does, and remembers them as open: goes over the table, allocations in the lowest
+ * slot first, so that low heaps empty, and proposes moves that sum up to so many bytes at most, and that moves has room for. *proposed says how
+ * many. Allocations that are a place of an open move are passed over, so that the table may be the same each frame, and so are
+ * committed resources. One that shall stay
+ * isn't put into it; one of more than so many bytes stays. Once none is proposed while none is open, it is done: by these bounds no allocation of
+ * the table has a place in a heap that is looked at before its own. Where a proposal fails, those before it in this frame are abandoned, and what
+ * moves holds doesn't count.
+ * NULL_POINTER. NO_HANDLE. NOT_LIVE: moves of another binding are open. HOST_OUT_OF_MEMORY: its own, as it goes. The causes of
+ * pilhangko_d3d12_propose_move. */
+PILHANGKO_NODISCARD PILHANGKO_API pilhangko_status PILHANGKO_CALL pilhangko_d3d12_defragmentation_propose(pilhangko_d3d12 *d3d12,
+    pilhangko_d3d12_defragmentation *it, const pilhangko_d3d12_movable *movables, size_t count, UINT64 bytes, pilhangko_d3d12_move *moves,
+    size_t room, size_t *proposed);
+
+/* Finishes the open move to this second place: frees the first one, and gives its heap back where that goes too. The resource at the first is
+ * released before, by its last reference. (Where
+ * pilhangko_d3d12_destroy_resource freed the first place with it, the move is finished all the same, but no heap of it is counted as given back.).
+ * NULL_POINTER. NO_HANDLE. NOT_LIVE: no open move of this binding is to this place, or the place was freed. */
+PILHANGKO_NODISCARD PILHANGKO_API pilhangko_status PILHANGKO_CALL pilhangko_d3d12_defragmentation_finish(
+    pilhangko_d3d12 *d3d12, pilhangko_d3d12_defragmentation *it, const pilhangko_d3d12_allocation *to);
+
+/* Abandons the open move to this second place, and frees that, unless it was freed already. The resource there is released before. The
+ * allocation stays where it is, and may be proposed again.
+ * NULL_POINTER. NO_HANDLE. NOT_LIVE: no open move of this binding is to this place. */
+PILHANGKO_NODISCARD PILHANGKO_API pilhangko_status PILHANGKO_CALL pilhangko_d3d12_defragmentation_abandon(
+    pilhangko_d3d12 *d3d12, pilhangko_d3d12_defragmentation *it, const pilhangko_d3d12_allocation *to);
+
+/* Abandons the open moves; one whose first place isn't live any more is finished instead. What was counted may still be read.
+ * NULL_POINTER. NO_HANDLE. NOT_LIVE: moves of another binding are open. */
+PILHANGKO_NODISCARD PILHANGKO_API pilhangko_status PILHANGKO_CALL pilhangko_d3d12_defragmentation_end(
+    pilhangko_d3d12 *d3d12, pilhangko_d3d12_defragmentation *it);
 
 /* Renames a live allocation. The names of the resources there are theirs, and the caller's to change by SetName.
  * NULL_POINTER. NO_HANDLE. INVALID: the name. NOT_LIVE: also of a committed resource, whose record has no name. HOST_OUT_OF_MEMORY. */

@@ -2,8 +2,9 @@
  * pilhangko_metal_heaps.
  *
  * The binding asks the device for heaps and resources; the allocator keeps the heaps, and says where each piece lies (pilhangko.h). Compile
- * c/pilhangko_metal.m and c/pilhangko_heap.c with the program, with ARC or without, and link libgpu_c.a and the frameworks Metal and
- * Foundation. It needs the SDK of macOS 15 or iOS 18; devices of older systems make no residency set. Its own host memory is malloc's.
+ * c/pilhangko_metal.m and c/pilhangko_heap.c with the program (c/pilhangko_metal_defragment.m, too, where moves stay open over frames), with
+ * ARC or without, and link libgpu_c.a and the frameworks Metal and Foundation. It needs the SDK of macOS 15 or iOS 18; devices of older systems
+ * make no residency set. Its own host memory is malloc's.
  *
  * Handles. A pilhangko_metal is one pointer that begins zeroed, as in `pilhangko_metal metal = {0};`, and keeps the rules of the handles of
  * pilhangko.h: it is never copied. But any threads may call it at once: it has a lock, which externally_synchronized leaves out; create and
@@ -155,6 +156,64 @@ PILHANGKO_NODISCARD PILHANGKO_API pilhangko_status PILHANGKO_CALL pilhangko_meta
  * allocation's. HOST_OUT_OF_MEMORY. */
 PILHANGKO_NODISCARD PILHANGKO_API pilhangko_status PILHANGKO_CALL pilhangko_metal_propose_move(pilhangko_metal *metal,
     const pilhangko_metal_allocation *from, const pilhangko_metal_request *request, bool *moves, pilhangko_metal_allocation *to);
+
+/* An allocation that may move, and the request that it was made by (of a resource the one that
+ * pilhangko_metal_read_.._request tells). */
+typedef struct pilhangko_metal_movable {
+    pilhangko_metal_allocation allocation;
+    pilhangko_metal_request request;
+} pilhangko_metal_movable;
+
+/* A move that is open: of which allocation of the table, and its second place. */
+typedef struct pilhangko_metal_move {
+    size_t index;
+    pilhangko_metal_allocation to;
+} pilhangko_metal_move;
+
+/* Moves that stay open over frames, and what came of those that were finished. It begins zeroed, as in `pilhangko_metal_defragmentation it = {0};`,
+ * and its fields are only read. While moves are open it is one binding's, and holds host memory: end it then. It has no lock: it is given to one
+ * call at a time, on any thread. Other threads may call the binding meanwhile, whose own lock holds, but do nothing with the allocations of open
+ * moves. (c/pilhangko_metal_defragment.m) */
+typedef struct pilhangko_metal_defragmentation {
+    size_t open; /* moves that are neither finished nor abandoned */
+    bool done;   /* whether the last propose found no move while none was open */
+    uint64_t moves_finished;
+    uint64_t bytes_moved;         /* the sum of their sizes */
+    uint64_t blocks_given_back; /* heaps that went back to the device as finish freed first places */
+    uint64_t bytes_given_back;    /* the sum of their sizes */
+    struct pilhangko_metal_open_move *open_moves; /* the library's own, as are the next two */
+    size_t room;
+    const void *binding;
+} pilhangko_metal_defragmentation;
+
+/* Proposes the moves of a frame, as pilhangko_metal_propose_move does, and remembers them as open: goes over the table, allocations in the lowest
+ * slot first, so that low heaps empty, and proposes moves that sum up to so many bytes at most, and that moves has room for. *proposed says how
+ * many. Allocations that are a place of an open move are passed over, so that the table may be the same each frame. One that shall stay
+ * isn't put into it; one of more than so many bytes stays. Once none is proposed while none is open, it is done: by these bounds no allocation of
+ * the table has a place in a heap that is looked at before its own. Where a proposal fails, those before it in this frame are abandoned, and what
+ * moves holds doesn't count.
+ * NULL_POINTER. NO_HANDLE. NOT_LIVE: moves of another binding are open. HOST_OUT_OF_MEMORY: its own, as it goes. The causes of
+ * pilhangko_metal_propose_move. */
+PILHANGKO_NODISCARD PILHANGKO_API pilhangko_status PILHANGKO_CALL pilhangko_metal_defragmentation_propose(pilhangko_metal *metal,
+    pilhangko_metal_defragmentation *it, const pilhangko_metal_movable *movables, size_t count, uint64_t bytes, pilhangko_metal_move *moves,
+    size_t room, size_t *proposed);
+
+/* Finishes the open move to this second place: frees the first one, and gives its heap back where that goes too. The resource at the first is
+ * released before.
+ * NULL_POINTER. NO_HANDLE. NOT_LIVE: no open move of this binding is to this place, or the place was freed. */
+PILHANGKO_NODISCARD PILHANGKO_API pilhangko_status PILHANGKO_CALL pilhangko_metal_defragmentation_finish(
+    pilhangko_metal *metal, pilhangko_metal_defragmentation *it, const pilhangko_metal_allocation *to);
+
+/* Abandons the open move to this second place, and frees that, unless it was freed already. The resource there is released before. The
+ * allocation stays where it is, and may be proposed again.
+ * NULL_POINTER. NO_HANDLE. NOT_LIVE: no open move of this binding is to this place. */
+PILHANGKO_NODISCARD PILHANGKO_API pilhangko_status PILHANGKO_CALL pilhangko_metal_defragmentation_abandon(
+    pilhangko_metal *metal, pilhangko_metal_defragmentation *it, const pilhangko_metal_allocation *to);
+
+/* Abandons the open moves; one whose first place isn't live any more is finished instead. What was counted may still be read.
+ * NULL_POINTER. NO_HANDLE. NOT_LIVE: moves of another binding are open. */
+PILHANGKO_NODISCARD PILHANGKO_API pilhangko_status PILHANGKO_CALL pilhangko_metal_defragmentation_end(
+    pilhangko_metal *metal, pilhangko_metal_defragmentation *it);
 
 /* Renames a live allocation. The labels of the resources there are theirs.
  * NULL_POINTER. NO_HANDLE. INVALID: the name. NOT_LIVE. HOST_OUT_OF_MEMORY. */

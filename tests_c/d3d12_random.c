@@ -381,6 +381,59 @@ static void frees(void) {
     }
 }
 
+/* ---- moves over frames */
+
+static pilhangko_d3d12_allocation some_allocation(void) {
+    if (live_count > 0 && random_below(10)) return live[random_below(live_count)].allocation;
+    return stale[random_below(STALE)];
+}
+
+/* The index of a live allocation, or the count of all. */
+static size_t live_at(const pilhangko_d3d12_allocation *a) {
+    size_t i = 0;
+    while (i < live_count && live[i].allocation.serial != a->serial) i++;
+    return i;
+}
+
+/* A committed resource stays. */
+static bool may_move(const struct live *it) {
+    return !it->is_committed;
+}
+
+static pilhangko_kind kind_of(const struct live *it) {
+    (void)it;
+    return PILHANGKO_KIND_LINEAR;
+}
+
+static pilhangko_d3d12_request request_again(const struct live *it) {
+    const size_t type = it->allocation.piece.memory_type;
+    const pilhangko_d3d12_request request = {it->allocation.size, it->alignment, (pilhangko_location)(2 + (account.tier == 1 ? type / 3 : type)),
+        (pilhangko_category)(account.tier == 1 ? 1 + type % 3 : 1), SOME_NAME};
+    return request;
+}
+
+static void keeps_second(struct live *it) {
+    uint64_t word = 0;
+    it->resource = NULL;
+    IS(pilhangko_d3d12_user_data(&d3d12, &it->allocation, &word), PILHANGKO_OK);
+    CHECK(word == it->word);
+    keeps(it);
+}
+
+static void goes_by_account(size_t index) {
+    const pilhangko_heaps_piece *p = &live[index].allocation.piece;
+    if (live[index].resource) ID3D12Resource_Release(live[index].resource);
+    type_free(&account.types[p->memory_type], &p->piece, heaps_find(&account, p));
+}
+
+#define NAMED(rest) pilhangko_d3d12##rest
+#define BYTES_OF(request) ((request)->size)
+#define BINDING (&d3d12)
+#define CAPACITY heaps_capacity(&account)
+#include "defragment_random.h"
+
+/* ---- what else may become of an allocation */
+
 static void renames(void) {
     const char *name = random_below(10) ? SOME_NAME : "\xff";
     if (live_count == 0) return;
@@ -480,6 +533,10 @@ static void step(void) {
         else updates_budgets();
     } else if (live_count > 0 && live_count < LIVE && what >= 840) {
         moves_one();
+    } else if (what >= 790 && what < 796) {
+        proposes_frame();
+    } else if (what >= 796 && what < 820) {
+        ends_move();
     } else if (live_count < LIVE && what < (live_count < target ? 720 : 180)) {
         if (what % 3 == 0) allocates();
         else if (what % 12 == 1) commits();
@@ -506,6 +563,7 @@ static void begins(uint32_t tier, FILE *capture) {
     live_count = last_serial = 0;
     memset(stale, 0, sizeof stale);
     memset(captured_budgets, 0, sizeof captured_budgets);
+    begins_moves();
     heaps_begin(&account, &sizes);
     IS(pilhangko_d3d12_create(&d3d12, &settings).status, PILHANGKO_OK);
     reply("ok");
@@ -514,6 +572,7 @@ static void begins(uint32_t tier, FILE *capture) {
 /* Some allocations leak; their heaps go back to the driver all the same, once their resources are released. */
 static void ends(void) {
     pilhangko_d3d12_ending ending;
+    ends_moves();
     looks();
     while (live_count > 7) frees_live(live_count - 1);
     for (size_t i = 0; i < live_count; i++)
@@ -548,8 +607,9 @@ int main(int count, char **words) {
         ends();
     }
     printf("200000 calls: %u allocated, %u placed, %u committed, %u refused, %u unplaced, %u aliased, %u freed, %u not live, %u renamed, "
-           "%u moved, %u stayed\n",
+           "%u moved, %u stayed, ",
         allocated, placed, committed, refused, unplaced, aliased, freed, not_live, renamed, moved, stayed);
+    tells_of_moves();
     CHECK(allocated > 5000 && placed > 5000 && committed > 1000 && refused > 5000 && unplaced > 500 && aliased > 50);
     CHECK(freed > 15000 && not_live > 1000 && renamed > 1000 && moved > 500 && stayed > 500);
     for (int i = 1; i + 1 < count; i += 2) captured_run((uint32_t)(i + 1) / 2, words[i], words[i + 1]);

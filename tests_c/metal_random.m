@@ -320,6 +320,48 @@ static void moves_one(void) {
     moved++;
 }
 
+/* ---- moves over frames */
+
+static bool may_move(const struct live *it) {
+    (void)it;
+    return true;
+}
+
+static pilhangko_kind kind_of(const struct live *it) {
+    (void)it;
+    return PILHANGKO_KIND_LINEAR;
+}
+
+static pilhangko_metal_request request_again(const struct live *it) {
+    const pilhangko_metal_request r = {
+        it->allocation.size, it->alignment, (pilhangko_location)(2 + it->allocation.piece.memory_type), SOME_NAME};
+    return r;
+}
+
+static void keeps_second(struct live *it) {
+    uint64_t word = 0;
+    it->resource = nil;
+    meets(&it->allocation);
+    IS(pilhangko_metal_user_data(&metal, &it->allocation, &word), PILHANGKO_OK);
+    CHECK(word == it->word);
+    reply_allocation(heap_of(&it->allocation)->number);
+    keeps(it);
+}
+
+static void goes_by_account(size_t index) {
+    const pilhangko_metal_allocation *a = &live[index].allocation;
+    type_free(&account.types[a->piece.memory_type], &a->piece.piece, metal_find(&account, &a->piece));
+    [live[index].resource release];
+}
+
+#define NAMED(rest) pilhangko_metal##rest
+#define BYTES_OF(request) ((request)->size)
+#define BINDING (&metal)
+#define CAPACITY metal_capacity(&account)
+#include "defragment_random.h"
+
+/* ---- the set, and bounds */
+
 static void commits(void) {
     IS(pilhangko_metal_commit(&metal), PILHANGKO_OK);
     CHECK(fake.committed == fake.members && fake.commits == (account.has_set ? ++committed : 0));
@@ -383,6 +425,10 @@ static void step(void) {
         else updates_budgets();
     } else if (live_count < LIVE && what >= 860) {
         moves_one();
+    } else if (what >= 790 && what < 796) {
+        proposes_frame();
+    } else if (what >= 796 && what < 820) {
+        ends_move();
     } else if (live_count < LIVE && what < (live_count < target ? 700 : 180)) {
         if (what % 2) allocates();
         else creates();
@@ -412,6 +458,7 @@ static void begins(bool has_set, FILE *capture) {
     live_count = last_serial = committed = 0;
     memset(stale, 0, sizeof stale);
     memset(captured_budgets, 0, sizeof captured_budgets);
+    begins_moves();
     metal_begin(&account, &asks);
     IS(pilhangko_metal_create(&metal, &settings), PILHANGKO_OK);
     CHECK(fake.questions == has_set && fake.sets == has_set && (pilhangko_metal_residency_set(&metal) != nil) == has_set);
@@ -421,6 +468,7 @@ static void begins(bool has_set, FILE *capture) {
 /* Some allocations leak, with their resources; all heaps go back to the device all the same. */
 static void ends(void) {
     pilhangko_metal_ending ending;
+    ends_moves();
     looks();
     while (live_count > 7) {
         [live[--live_count].resource release];
@@ -458,8 +506,9 @@ int main(int count, char **words) {
         ends();
     }
     printf("200000 calls: %u allocated, %u made, %u not made, %u refused, %u of them over budget, %u freed, %u not live, %u renamed, "
-           "%u moved, %u stayed\n",
+           "%u moved, %u stayed, ",
         allocated, made, unmade, refused, over_budget, freed, not_live, renamed, moved, stayed);
+    tells_of_moves();
     CHECK(allocated > 10000 && made > 10000 && unmade > 500 && refused > 1000 && over_budget > 100 && freed > 20000 && not_live > 1000);
     CHECK(renamed > 1000 && moved > 500 && stayed > 500);
     if (count == 3) captured_run(words[1], words[2]);

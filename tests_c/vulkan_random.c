@@ -29,7 +29,7 @@ static FILE *replies;                                    /* what the captured ca
 static pilhangko_budget captured_budgets[ACCOUNT_TYPES]; /* as the capture has them by now */
 static pilhangko_budget bounds[ACCOUNT_TYPES];           /* as they were before the request */
 static unsigned allocated, made, refused, second_attempts, freed, not_live, renamed, flushed, shared_after_all, moved, stayed;
-static unsigned finished, emptied, abandoned, not_open, chained, flagged, dearer;
+static unsigned chained, flagged, dearer;
 
 static const char *const names[] = {NULL, "", "vertices", "a name that takes host memory of its own", "\xc3\xa9t\xc3\xa9 2",
     "a name of more than sixty-four bytes, which no trace can have as it stands here"};
@@ -542,148 +542,41 @@ static void moves_one(void) {
 
 /* ---- moves over frames */
 
-#define OPEN 40
-#define FRAME 6
-
-/* A move that is open until it is told that it isn't: either place may be freed before. */
-struct open_move {
-    pilhangko_vulkan_allocation from, to;
-};
-
-static pilhangko_vulkan_defragmentation defragmentation, counted; /* the binding's, and what the account counts */
-static struct open_move open_moves[OPEN];
-
-static bool is_place(const pilhangko_vulkan_allocation *a) {
-    for (size_t i = 0; i < counted.open; i++)
-        if (open_moves[i].from.serial == a->serial || open_moves[i].to.serial == a->serial) return true;
-    return false;
+static bool may_move(const struct live *it) {
+    (void)it;
+    return true;
 }
 
-static void is_counted(void) {
-    CHECK(defragmentation.open == counted.open && defragmentation.moves_finished == counted.moves_finished);
-    CHECK(defragmentation.bytes_moved == counted.bytes_moved && defragmentation.blocks_given_back == counted.blocks_given_back);
-    CHECK(defragmentation.bytes_given_back == counted.bytes_given_back && !defragmentation.open_moves == !counted.open);
+static pilhangko_kind kind_of(const struct live *it) {
+    return it->kind;
 }
 
-/* The moves of a frame by the account: the indices of the allocations, and their second places. A capture has those that stay, too. */
-static size_t foretell_frame(VkDeviceSize bytes, size_t room, size_t *indices, pilhangko_memory_piece *places) {
-    size_t found = 0;
-    looks_at_bounds();
-    for (size_t slot = 0; slot < ACCOUNT_SLOTS; slot++)
-        for (size_t i = 0; i < live_count && found < room; i++) {
-            const pilhangko_vulkan_allocation *a = &live[i].allocation;
-            const pilhangko_memory_request asks = {a->size, live[i].alignment, live[i].kind, false};
-            if (a->piece.piece.slot != slot || a->size > bytes || is_place(a)) continue;
-            const size_t type = a->piece.memory_type;
-            if (!type_place(&account.types[type], slot + 1, &asks, "", &places[found])) {
-                reply_no_place();
-                continue;
-            }
-            reply_place(type, &places[found], false, (account.flags[type] & 2) != 0);
-            bytes -= a->size;
-            indices[found++] = i;
-        }
-    return found;
+static pilhangko_vulkan_request request_again(const struct live *it) {
+    pilhangko_vulkan_request request = fake_request(it->allocation.size, it->alignment, 1);
+    request.kind = it->kind;
+    return request;
 }
 
-static void opens(const struct live *of, const pilhangko_memory_piece *place, const pilhangko_vulkan_allocation *to) {
-    struct live it = *of;
-    it.allocation = *to;
-    it.buffer = VK_NULL_HANDLE;
-    it.image = VK_NULL_HANDLE;
-    account.type = of->allocation.piece.memory_type;
-    account.placed.piece = *place;
-    account.placed.piece.block = account.types[account.type].slots[place->slot].block; /* by now it may have been told */
-    meets(to);
-    open_moves[counted.open].from = of->allocation;
-    open_moves[counted.open++].to = *to;
-    keeps(&it);
+static void keeps_second(struct live *it) {
+    it->buffer = VK_NULL_HANDLE;
+    it->image = VK_NULL_HANDLE;
+    meets(&it->allocation);
+    reply_allocation(&it->allocation.piece, false);
+    keeps(it);
 }
 
-static void proposes_frame(void) {
-    static pilhangko_vulkan_movable movables[LIVE];
-    const size_t left = LIVE - live_count < OPEN - counted.open ? LIVE - live_count : OPEN - counted.open;
-    const size_t wanted = random_below(FRAME + 1), room = wanted < left ? wanted : left;
-    const VkDeviceSize bytes = random_below(2 * MB);
-    const uint64_t first = fake.questions;
-    pilhangko_vulkan_move moves[FRAME];
-    pilhangko_memory_piece places[FRAME];
-    size_t indices[FRAME], proposed = 99;
-    for (size_t i = 0; i < live_count; i++) {
-        movables[i].allocation = live[i].allocation;
-        movables[i].request = fake_request(live[i].allocation.size, live[i].alignment, 1);
-        movables[i].request.kind = live[i].kind;
-    }
-    const size_t found = foretell_frame(bytes, room, indices, places);
-    IS(pilhangko_vulkan_defragmentation_propose(&vulkan, &defragmentation, movables, live_count, bytes, moves, room, &proposed), PILHANGKO_OK);
-    CHECK(proposed == found && fake.questions == first);
-    for (size_t i = 0; i < found; i++) {
-        CHECK(moves[i].index == indices[i]);
-        opens(&live[indices[i]], &places[i], &moves[i].to);
-    }
-    CHECK(defragmentation.done == (counted.open == 0));
-    is_counted();
+static void goes_by_account(size_t index) {
+    const pilhangko_allocator_piece *p = &live[index].allocation.piece;
+    if (live[index].buffer) fake_destroy_buffer((VkDevice)(uintptr_t)2, live[index].buffer, NULL);
+    if (live[index].image) fake_destroy_image((VkDevice)(uintptr_t)2, live[index].image, NULL);
+    type_free(&account.types[p->memory_type], &p->piece, allocator_find(&account, p));
 }
 
-/* A place is freed with its move, where it is live; how many bytes go back. */
-static VkDeviceSize goes(const pilhangko_vulkan_allocation *a) {
-    const size_t i = live_at(a);
-    const VkDeviceSize before = allocator_capacity(&account);
-    if (i == live_count) return 0;
-    if (live[i].buffer) fake_destroy_buffer((VkDevice)(uintptr_t)2, live[i].buffer, NULL);
-    if (live[i].image) fake_destroy_image((VkDevice)(uintptr_t)2, live[i].image, NULL);
-    type_free(&account.types[a->piece.memory_type], &a->piece.piece, allocator_find(&account, &a->piece));
-    reply("ok");
-    stale[random_below(STALE)] = *a;
-    live[i] = live[--live_count];
-    return before - allocator_capacity(&account);
-}
-
-static void is_finished(const struct open_move *move) {
-    const VkDeviceSize bytes = goes(&move->from);
-    counted.moves_finished++;
-    counted.bytes_moved += move->to.size;
-    counted.blocks_given_back += bytes > 0;
-    counted.bytes_given_back += bytes;
-    finished++;
-    emptied += bytes > 0;
-}
-
-static void is_abandoned(const struct open_move *move) {
-    (void)goes(&move->to);
-    abandoned++;
-}
-
-/* One that is open is told to be done or to have failed; at times it isn't open, or its second place is gone. */
-static void ends_move(void) {
-    const bool finishes = random_below(3) > 0;
-    const pilhangko_vulkan_allocation to =
-        counted.open > 0 && random_below(10) ? open_moves[random_below(counted.open)].to : some_allocation();
-    size_t at = 0;
-    while (at < counted.open && open_moves[at].to.serial != to.serial) at++;
-    const bool may = at < counted.open && (!finishes || live_at(&to) < live_count);
-    if (may) {
-        const struct open_move move = open_moves[at];
-        open_moves[at] = open_moves[--counted.open];
-        if (finishes) is_finished(&move);
-        else is_abandoned(&move);
-    }
-    not_open += !may;
-    IS(finishes ? pilhangko_vulkan_defragmentation_finish(&vulkan, &defragmentation, &to)
-                : pilhangko_vulkan_defragmentation_abandon(&vulkan, &defragmentation, &to),
-        may ? (pilhangko_status)PILHANGKO_OK : PILHANGKO_NOT_LIVE);
-    is_counted();
-}
-
-static void ends_moves(void) {
-    while (counted.open > 0) {
-        const struct open_move move = open_moves[--counted.open];
-        if (live_at(&move.from) < live_count || live_at(&move.to) == live_count) is_abandoned(&move);
-        else is_finished(&move);
-    }
-    IS(pilhangko_vulkan_defragmentation_end(&vulkan, &defragmentation), PILHANGKO_OK);
-    is_counted();
-}
+#define NAMED(rest) pilhangko_vulkan##rest
+#define BYTES_OF(request) ((request)->requirements.size)
+#define BINDING (&vulkan)
+#define CAPACITY allocator_capacity(&account)
+#include "defragment_random.h"
 
 /* A range within the allocation, at times one that isn't. The driver checks that it is whole atoms; it has to cover the bytes. */
 static void flushes(void) {
@@ -796,6 +689,7 @@ static void step(void) {
     } else if (live_count < LIVE && what >= 820) {
         moves_one();
     } else if (what >= 790 && what < 796) {
+        looks_at_bounds();
         proposes_frame();
     } else if (what >= 796 && what < 820) {
         ends_move();
@@ -825,8 +719,7 @@ static void begins(FILE *capture, uint32_t most_blocks) {
     live_count = last_serial = 0;
     memset(stale, 0, sizeof stale);
     memset(captured_budgets, 0, sizeof captured_budgets);
-    memset(&defragmentation, 0, sizeof defragmentation);
-    memset(&counted, 0, sizeof counted);
+    begins_moves();
     account.type_count = 5;
     account.heap_count = 3;
     memset(account.has_limit, 0, sizeof account.has_limit);
@@ -886,12 +779,11 @@ int main(int count, char **words) {
         ends();
     }
     printf("200000 calls: %u allocated, %u made, %u refused, %u at the second attempt, %u shared after all, %u freed, %u not live, "
-           "%u renamed, %u flushed, %u with a chain, %u by flags, %u of these in dearer memory, %u moved, %u stayed, %u moves finished, %u blocks emptied, %u abandoned, %u not open\n",
-        allocated, made, refused, second_attempts, shared_after_all, freed, not_live, renamed, flushed, chained, flagged, dearer, moved, stayed, finished, emptied,
-        abandoned, not_open);
+           "%u renamed, %u flushed, %u with a chain, %u by flags, %u of these in dearer memory, %u moved, %u stayed, ",
+        allocated, made, refused, second_attempts, shared_after_all, freed, not_live, renamed, flushed, chained, flagged, dearer, moved, stayed);
+    tells_of_moves();
     CHECK(allocated > 10000 && made > 5000 && refused > 10000 && second_attempts > 200 && freed > 15000 && not_live > 1000);
     CHECK(renamed > 1000 && flushed > 100 && chained > 1000 && flagged > 1000 && dearer > 100 && shared_after_all > 20 && moved > 500 && stayed > 500);
-    CHECK(finished > 100 && emptied > 5 && abandoned > 100 && not_open > 100);
     if (count == 3) captured_run(words[1], words[2]);
     return 0;
 }
