@@ -1,79 +1,11 @@
 /* Pilhangko's Vulkan binding (include/pilhangko_vulkan.h): compile it with the program, as C11 or as C++11. It asks the driver what the
  * allocator wants to know; the allocator decides all else, and keeps what it decided. */
-#include "pilhangko_vulkan_resource.h"
-#include "pilhangko_vulkan_capture.h"
-#include "pilhangko_vulkan_request.h"
-#include "pilhangko_shared.h"
-
-/* ---- records ---- */
-
-/* A live allocation. Its serial number never comes again, so one that was freed is told apart from each later one. */
-struct live {
-    uint32_t next_spare;
-    uint64_t serial; /* 0 of a spare record */
-    pilhangko_allocator_piece piece;
-    uint64_t user_data;
-};
-
-struct binding {
-    pilhangko_allocator allocator;
-    uint64_t number; /* no other binding of the process has it, nor had */
-    pilhangko_vulkan_device over; /* its two pointers lead to the next two fields */
-    pilhangko_vulkan_functions functions;
-    VkAllocationCallbacks callbacks;
-    bool memory_budget, device_address;
-    bool is_locked_outside; /* whether the caller sees to it that one call is made at a time */
-    mutex lock;             /* of the allocator, the live allocations and the capture */
-    VkPhysicalDeviceMemoryProperties properties;
-    VkDeviceSize atom; /* nonCoherentAtomSize */
-    struct table live;
-    uint64_t last_serial, live_count;
-    size_t block_count;
-    struct capture capture;
-};
-
-static struct binding *binding_of(const pilhangko_vulkan *vulkan) {
-    return (struct binding *)vulkan->opaque;
-}
-
-/* From here on until `leave` no other thread is in a call that looks at the allocator, the live allocations or the capture. */
-static struct binding *enter(const struct binding *binding) {
-    struct binding *b = (struct binding *)binding;
-    if (!b->is_locked_outside) lock_mutex(&b->lock);
-    return b;
-}
-
-static void leave(struct binding *b) {
-    if (!b->is_locked_outside) unlock_mutex(&b->lock);
-}
-
-/* The record of an allocation, or NULL where it isn't live or another binding's. */
-static const struct live *find(const struct binding *b, const pilhangko_vulkan_allocation *allocation) {
-    const struct live *it;
-    if (allocation->owner != b->number || allocation->serial == 0 || allocation->index >= b->live.count) return NULL;
-    it = (const struct live *)record_of(&b->live, allocation->index);
-    return it->serial == allocation->serial ? it : NULL;
-}
+#include "pilhangko_vulkan_binding.h"
 
 /* ---- captures ---- */
 
 static bool is_captured(const struct binding *b) {
     return goes_on(&b->capture);
-}
-
-/* The sum of the sizes of a memory type's blocks, between enter and leave. */
-static VkDeviceSize held_of_type(const struct binding *b, uint32_t memory_type) {
-    uint64_t bytes = 0;
-    const pilhangko_status status = pilhangko_allocator_type_capacity(&b->allocator, memory_type, &bytes);
-    return status == PILHANGKO_OK ? bytes : 0;
-}
-
-/* The sum of the sizes of a heap's blocks, likewise. */
-static VkDeviceSize held_of_heap(const struct binding *b, uint32_t heap) {
-    VkDeviceSize bytes = 0;
-    for (uint32_t i = 0; i < b->properties.memoryTypeCount; i++)
-        if (b->properties.memoryTypes[i].heapIndex == heap) bytes += held_of_type(b, i);
-    return bytes;
 }
 
 /* The lesser of a bound and so many bytes. */
@@ -88,8 +20,8 @@ static void tell_bounds(const struct binding *b, pilhangko_budget *bounds) {
     bool has_most = false;
     size_t most = 0;
     if (pilhangko_allocator_most_blocks(&b->allocator, &has_most, &most) != PILHANGKO_OK) return;
-    for (uint32_t i = 0; i < b->properties.memoryTypeCount; i++) {
-        const uint32_t heap = b->properties.memoryTypes[i].heapIndex;
+    for (uint32_t i = 0; i < b->common->properties.memoryTypeCount; i++) {
+        const uint32_t heap = b->common->properties.memoryTypes[i].heapIndex;
         const VkDeviceSize held = held_of_type(b, i), others = held_of_heap(b, heap) - held;
         pilhangko_budget limit;
         if (pilhangko_allocator_budget(&b->allocator, i, &bounds[i]) != PILHANGKO_OK) return;
@@ -107,7 +39,7 @@ static void capture_call(struct binding *b, const struct wanted *wanted, const p
     if (!is_captured(b) || status == PILHANGKO_HOST_OUT_OF_MEMORY || status == PILHANGKO_INVALID) return;
     if (wanted->by_flags && status != PILHANGKO_OK) return;
     if (wanted->by_flags) asks.memory_type_bits = UINT32_C(1) << type;
-    capture_bounds(&b->capture, bounds, b->properties.memoryTypeCount);
+    capture_bounds(&b->capture, bounds, b->common->properties.memoryTypeCount);
     capture_allocation(&b->capture, b->last_serial + 1, &asks, wanted->name, asked);
 }
 
@@ -116,7 +48,7 @@ static void capture_proposal(struct binding *b, uint64_t from, const struct want
     pilhangko_budget bounds[VK_MAX_MEMORY_TYPES];
     if (!is_captured(b)) return;
     tell_bounds(b, bounds);
-    capture_bounds(&b->capture, bounds, b->properties.memoryTypeCount);
+    capture_bounds(&b->capture, bounds, b->common->properties.memoryTypeCount);
     capture_move(&b->capture, from, b->last_serial + 1, &wanted->asks, wanted->name);
 }
 
@@ -126,7 +58,7 @@ static pilhangko_vulkan_capture end_capture(struct binding *b, const char *last_
     struct capture_told ended;
     pilhangko_vulkan_capture told;
     if (is_captured(b)) tell_bounds(b, bounds);
-    if (is_captured(b)) capture_bounds(&b->capture, bounds, b->properties.memoryTypeCount);
+    if (is_captured(b)) capture_bounds(&b->capture, bounds, b->common->properties.memoryTypeCount);
     ended = finish_capture(&b->capture, last_line);
     told.end = (pilhangko_vulkan_capture_end)ended.end;
     told.bytes = ended.bytes;
@@ -158,19 +90,19 @@ static VkResult ask_memory(
     alone.sType = VK_STRUCTURE_TYPE_MEMORY_DEDICATED_ALLOCATE_INFO;
     if (wanted->asks.scheme == PILHANGKO_SCHEME_BUFFER) alone.buffer = (VkBuffer)wanted->asks.resource;
     else alone.image = (VkImage)wanted->asks.resource;
-    if (wanted->asks.resource != 0 && b->over.api_version >= VK_API_VERSION_1_1 && !has_struct(wanted->next, alone.sType)) {
+    if (wanted->asks.resource != 0 && b->common->over.api_version >= VK_API_VERSION_1_1 && !has_struct(wanted->next, alone.sType)) {
         alone.pNext = info.pNext;
         info.pNext = &alone;
     }
     memset(&flags, 0, sizeof flags);
     flags.sType = VK_STRUCTURE_TYPE_MEMORY_ALLOCATE_FLAGS_INFO;
     flags.flags = VK_MEMORY_ALLOCATE_DEVICE_ADDRESS_BIT;
-    if (b->device_address && !has_struct(wanted->next, flags.sType)) {
+    if (b->common->device_address && !has_struct(wanted->next, flags.sType)) {
         flags.pNext = info.pNext;
         info.pNext = &flags;
     }
     *memory = VK_NULL_HANDLE;
-    return b->functions.vkAllocateMemory(b->over.device, &info, b->over.allocation_callbacks, memory);
+    return b->common->over.functions->vkAllocateMemory(b->common->over.device, &info, b->common->over.allocation_callbacks, memory);
 }
 
 static pilhangko_status memory_refused(
@@ -184,7 +116,7 @@ static pilhangko_status memory_refused(
 static pilhangko_status mapping_refused(
     struct binding *b, struct asked *asked, VkResult driver, VkDeviceMemory memory, pilhangko_allocator_progress *progress) {
     bool has_code = driver != VK_SUCCESS;
-    b->functions.vkFreeMemory(b->over.device, memory, b->over.allocation_callbacks); /* unmaps it too, where a null address is a mapping to the driver */
+    b->common->over.functions->vkFreeMemory(b->common->over.device, memory, b->common->over.allocation_callbacks); /* unmaps it too, where a null address is a mapping to the driver */
     note_refusal(asked, !has_code, driver, driver);
     return pilhangko_allocator_mapping_refused(&b->allocator, has_code, driver, progress);
 }
@@ -195,17 +127,20 @@ static pilhangko_status ask(
     const pilhangko_allocator_question question = progress->question;
     void *mapped = NULL;
     VkDeviceMemory memory;
+    pilhangko_status status;
     VkResult driver = ask_memory(b, wanted, &question, &memory);
     asked->questions++;
     if (driver != VK_SUCCESS || memory == VK_NULL_HANDLE) return memory_refused(b, asked, driver, memory, progress);
     if (question.mapped) {
-        driver = b->functions.vkMapMemory(b->over.device, memory, 0, VK_WHOLE_SIZE, 0, &mapped);
+        driver = b->common->over.functions->vkMapMemory(b->common->over.device, memory, 0, VK_WHOLE_SIZE, 0, &mapped);
         asked->questions++;
         if (driver != VK_SUCCESS || !mapped) return mapping_refused(b, asked, driver, memory, progress);
     }
     progress->kind = PILHANGKO_PROGRESS_PIECE;
+    status = pilhangko_allocator_granted(&b->allocator, (uint64_t)memory, (uintptr_t)mapped, &progress->piece);
     b->block_count++;
-    return pilhangko_allocator_granted(&b->allocator, (uint64_t)memory, (uintptr_t)mapped, &progress->piece);
+    share_again(b->common);
+    return status;
 }
 
 /* ---- memory ---- */
@@ -234,13 +169,20 @@ static pilhangko_status begin(struct binding *b, const struct wanted *wanted, pi
     return pilhangko_allocator_begin(&b->allocator, &wanted->asks, wanted->name, progress);
 }
 
+/* What the binding asks its allocator and the driver for. */
+static pilhangko_status wants(const struct binding *b, const pilhangko_vulkan_request *request, struct wanted *wanted) {
+    const pilhangko_status status = asks_for(&b->common->properties, b->common->atom, b->type_bits, request, wanted);
+    if (status == PILHANGKO_OK && !wanted->next) wanted->next = b->next;
+    return status;
+}
+
 static pilhangko_vulkan_result allocate_alone(
     struct binding *b, const pilhangko_vulkan_request *request, pilhangko_vulkan_allocation *allocation) {
     struct wanted wanted;
     pilhangko_allocator_progress progress;
     pilhangko_budget bounds[VK_MAX_MEMORY_TYPES];
     struct asked asked;
-    pilhangko_status status = asks_for(&b->properties, b->atom, request, &wanted);
+    pilhangko_status status = wants(b, request, &wanted);
     if (status != PILHANGKO_OK) return undriven(status);
     /* before the driver is asked, so that nothing can fail behind its grant */
     if (!has_spare(&b->live)) return undriven(PILHANGKO_HOST_OUT_OF_MEMORY);
@@ -261,8 +203,8 @@ static pilhangko_vulkan_result allocate_alone(
 
 /* Gives memory back to the driver. */
 static void give_back(const struct binding *b, uint64_t memory, bool mapped) {
-    if (mapped) b->functions.vkUnmapMemory(b->over.device, (VkDeviceMemory)memory);
-    b->functions.vkFreeMemory(b->over.device, (VkDeviceMemory)memory, b->over.allocation_callbacks);
+    if (mapped) b->common->over.functions->vkUnmapMemory(b->common->over.device, (VkDeviceMemory)memory);
+    b->common->over.functions->vkFreeMemory(b->common->over.device, (VkDeviceMemory)memory, b->common->over.allocation_callbacks);
 }
 
 static pilhangko_vulkan_result allocate(
@@ -286,6 +228,7 @@ static pilhangko_status free_alone(struct binding *b, const pilhangko_vulkan_all
     if (back.exists) {
         give_back(b, back.memory, back.mapped);
         b->block_count--;
+        share_again(b->common);
     }
     return PILHANGKO_OK;
 }
@@ -318,7 +261,7 @@ static pilhangko_status propose_alone(struct binding *b, const pilhangko_vulkan_
     pilhangko_status status;
     if (!it) return PILHANGKO_NOT_LIVE;
     first = *it; /* the record may lie elsewhere behind has_spare */
-    status = asks_for(&b->properties, b->atom, request, &wanted);
+    status = wants(b, request, &wanted);
     if (status != PILHANGKO_OK) return status;
     if (!has_spare(&b->live)) return PILHANGKO_HOST_OUT_OF_MEMORY;
     status = pilhangko_allocator_propose_move(&b->allocator, &first.piece, &wanted.asks, wanted.name, moves, &place);
@@ -340,15 +283,6 @@ pilhangko_status PILHANGKO_CALL pilhangko_vulkan_propose_move(pilhangko_vulkan *
     status = propose_alone(b, from, request, moves, to);
     leave(b);
     return status;
-}
-
-/* A copy of a live allocation's piece; false where it isn't live. */
-static bool live_piece(const struct binding *binding, const pilhangko_vulkan_allocation *allocation, pilhangko_allocator_piece *piece) {
-    struct binding *b = enter(binding);
-    const struct live *it = find(b, allocation);
-    if (it) *piece = it->piece;
-    leave(b);
-    return it != NULL;
 }
 
 pilhangko_vulkan_result PILHANGKO_CALL pilhangko_vulkan_allocate(
@@ -432,13 +366,13 @@ static pilhangko_vulkan_result make_visible(const struct binding *b, const struc
     pilhangko_status status;
     VkMappedMemoryRange range;
     VkResult driver;
-    if (bytes->size == 0 || (b->properties.memoryTypes[bytes->live.memory_type].propertyFlags & VK_MEMORY_PROPERTY_HOST_COHERENT_BIT))
+    if (bytes->size == 0 || (b->common->properties.memoryTypes[bytes->live.memory_type].propertyFlags & VK_MEMORY_PROPERTY_HOST_COHERENT_BIT))
         return undriven(PILHANGKO_OK);
     status = block_of(b, &bytes->live, &block);
     if (status != PILHANGKO_OK) return undriven(status);
-    range = whole_atoms(&block, b->atom, bytes->live.piece.offset + bytes->offset, bytes->size);
-    driver = invalidates ? b->functions.vkInvalidateMappedMemoryRanges(b->over.device, 1, &range)
-                         : b->functions.vkFlushMappedMemoryRanges(b->over.device, 1, &range);
+    range = whole_atoms(&block, b->common->atom, bytes->live.piece.offset + bytes->offset, bytes->size);
+    driver = invalidates ? b->common->over.functions->vkInvalidateMappedMemoryRanges(b->common->over.device, 1, &range)
+                         : b->common->over.functions->vkFlushMappedMemoryRanges(b->common->over.device, 1, &range);
     return driver == VK_SUCCESS ? undriven(PILHANGKO_OK) : result_of(PILHANGKO_VULKAN_CALL_FAILED, driver);
 }
 
@@ -530,7 +464,7 @@ pilhangko_status PILHANGKO_CALL pilhangko_vulkan_read_allocation(
     if (status == PILHANGKO_OK) {
         told->mapped = it->piece.address == 0 ? NULL : (char *)(uintptr_t)it->piece.address + it->piece.piece.offset;
         told->user_data = it->user_data;
-        told->property_flags = b->properties.memoryTypes[it->piece.memory_type].propertyFlags;
+        told->property_flags = b->common->properties.memoryTypes[it->piece.memory_type].propertyFlags;
         told->block_size = block.size;
         told->block_shared = block.shared;
     }
@@ -587,7 +521,8 @@ pilhangko_status PILHANGKO_CALL pilhangko_vulkan_read_device(const pilhangko_vul
     if (!vulkan || !read) return PILHANGKO_NULL_POINTER;
     b = binding_of(vulkan);
     if (!b) return PILHANGKO_NO_HANDLE;
-    *read = b->over;
+    *read = b->common->over;
+    read->memory_type_bits = b->type_bits;
     return PILHANGKO_OK;
 }
 
@@ -602,7 +537,7 @@ static pilhangko_vulkan_result allocate_for(struct binding *b, const struct reso
     VkMemoryDedicatedRequirements alone;
     bool may_share;
     memset(&request, 0, sizeof request);
-    alone = requirements_of(&b->over, r, &request.requirements);
+    alone = requirements_of(&b->common->over, r, &request.requirements);
     may_share = !placement->dedicated && !placement->next && placement->location != PILHANGKO_VULKAN_LOCATION_TRANSIENT &&
                 !alone.requiresDedicatedAllocation;
     request.location = placement->location;
@@ -633,12 +568,12 @@ static pilhangko_vulkan_result place(struct binding *b, const struct resource *r
     pilhangko_vulkan_allocation made;
     pilhangko_vulkan_result result = allocate_for(b, r, kind, placement, &made);
     if (result.status != PILHANGKO_OK) {
-        destroy_resource(&b->over, r);
+        destroy_resource(&b->common->over, r);
         return result;
     }
-    result = bind_resource(&b->over, r, made.memory, made.offset);
+    result = bind_resource(&b->common->over, r, made.memory, made.offset);
     if (result.status != PILHANGKO_OK) {
-        destroy_resource(&b->over, r);
+        destroy_resource(&b->common->over, r);
         free_allocation(b, &made);
         return result;
     }
@@ -655,7 +590,7 @@ pilhangko_vulkan_result PILHANGKO_CALL pilhangko_vulkan_create_buffer(pilhangko_
     b = binding_of(vulkan);
     if (!b) return undriven(PILHANGKO_NO_HANDLE);
     if (!is_bindable_buffer(info)) return undriven(PILHANGKO_INVALID);
-    result = make_buffer(&b->over, info, &made);
+    result = make_buffer(&b->common->over, info, &made);
     if (result.status != PILHANGKO_OK) return result;
     result = place(b, &made, PILHANGKO_KIND_LINEAR, placement, allocation);
     if (result.status == PILHANGKO_OK) *buffer = made.buffer;
@@ -671,7 +606,7 @@ pilhangko_vulkan_result PILHANGKO_CALL pilhangko_vulkan_create_image(pilhangko_v
     b = binding_of(vulkan);
     if (!b) return undriven(PILHANGKO_NO_HANDLE);
     if (!is_bindable_image(info)) return undriven(PILHANGKO_INVALID);
-    result = make_image(&b->over, info, &made);
+    result = make_image(&b->common->over, info, &made);
     if (result.status != PILHANGKO_OK) return result;
     result = place(b, &made, kind_of_image(info), placement, allocation);
     if (result.status == PILHANGKO_OK) *image = made.image;
@@ -682,7 +617,7 @@ pilhangko_vulkan_result PILHANGKO_CALL pilhangko_vulkan_create_image(pilhangko_v
 static pilhangko_status destroy_placed(struct binding *b, const struct resource *r, const pilhangko_vulkan_allocation *allocation) {
     pilhangko_allocator_piece piece;
     if (!live_piece(b, allocation, &piece)) return PILHANGKO_NOT_LIVE;
-    destroy_resource(&b->over, r);
+    destroy_resource(&b->common->over, r);
     return free_allocation(b, allocation);
 }
 
@@ -712,7 +647,7 @@ static void read_budgets(const struct binding *b, VkPhysicalDeviceMemoryBudgetPr
     memset(&properties, 0, sizeof properties);
     properties.sType = VK_STRUCTURE_TYPE_PHYSICAL_DEVICE_MEMORY_PROPERTIES_2;
     properties.pNext = budgets;
-    b->functions.vkGetPhysicalDeviceMemoryProperties2(b->over.physical_device, &properties);
+    b->common->over.functions->vkGetPhysicalDeviceMemoryProperties2(b->common->over.physical_device, &properties);
 }
 
 pilhangko_status PILHANGKO_CALL pilhangko_vulkan_read_heap(const pilhangko_vulkan *vulkan, uint32_t heap, pilhangko_vulkan_heap *read) {
@@ -721,44 +656,42 @@ pilhangko_status PILHANGKO_CALL pilhangko_vulkan_read_heap(const pilhangko_vulka
     if (!vulkan || !read) return PILHANGKO_NULL_POINTER;
     b = binding_of(vulkan);
     if (!b) return PILHANGKO_NO_HANDLE;
-    if (heap >= b->properties.memoryHeapCount) return PILHANGKO_VULKAN_NO_SUCH_HEAP;
+    if (heap >= b->common->properties.memoryHeapCount) return PILHANGKO_VULKAN_NO_SUCH_HEAP;
     memset(read, 0, sizeof *read);
-    read->size = b->properties.memoryHeaps[heap].size;
-    read->flags = b->properties.memoryHeaps[heap].flags;
+    read->size = b->common->properties.memoryHeaps[heap].size;
+    read->flags = b->common->properties.memoryHeaps[heap].flags;
     (void)enter(b);
-    read->held = held_of_heap(b, heap);
+    read->held = held_by_all(b->common, heap);
     leave(binding_of(vulkan));
-    read->has_budget = b->memory_budget;
-    if (!b->memory_budget) return PILHANGKO_OK;
+    read->has_budget = b->common->memory_budget;
+    if (!b->common->memory_budget) return PILHANGKO_OK;
     read_budgets(b, &budgets);
     read->usage = budgets.heapUsage[heap];
     read->budget = budgets.heapBudget[heap];
     return PILHANGKO_OK;
 }
 
-/* Limits each heap to what it has and what the driver still gives, between enter and leave: no block comes or goes meanwhile. */
-static pilhangko_status follow_driver(struct binding *b) {
-    VkPhysicalDeviceMemoryBudgetPropertiesEXT budgets;
-    pilhangko_status status = PILHANGKO_OK;
-    read_budgets(b, &budgets);
-    for (uint32_t heap = 0; heap < b->properties.memoryHeapCount && status == PILHANGKO_OK; heap++) {
-        const VkDeviceSize usage = budgets.heapUsage[heap], budget = budgets.heapBudget[heap];
-        const VkDeviceSize left = budget > usage ? budget - usage : 0, held = held_of_heap(b, heap);
-        status = pilhangko_allocator_set_heap_limit(&b->allocator, heap, true, left <= UINT64_MAX - held ? held + left : UINT64_MAX);
+/* Limits each heap to what is held there and what the driver still gives, between enter and leave: no block comes or goes meanwhile. */
+static void follow_driver(struct common *c, const VkPhysicalDeviceMemoryBudgetPropertiesEXT *budgets) {
+    for (uint32_t heap = 0; heap < c->properties.memoryHeapCount; heap++) {
+        const VkDeviceSize left = left_of(budgets->heapBudget[heap], budgets->heapUsage[heap]), held = held_by_all(c, heap);
+        c->limits[heap].exists = true;
+        c->limits[heap].bytes = left <= UINT64_MAX - held ? held + left : UINT64_MAX;
     }
-    return status;
+    share_bounds(c);
 }
 
 pilhangko_status PILHANGKO_CALL pilhangko_vulkan_update_budgets(pilhangko_vulkan *vulkan) {
+    VkPhysicalDeviceMemoryBudgetPropertiesEXT budgets;
     struct binding *b;
-    pilhangko_status status;
     if (!vulkan) return PILHANGKO_NULL_POINTER;
     if (!vulkan->opaque) return PILHANGKO_NO_HANDLE;
-    if (!binding_of(vulkan)->memory_budget) return PILHANGKO_VULKAN_NO_BUDGETS;
+    if (!binding_of(vulkan)->common->memory_budget) return PILHANGKO_VULKAN_NO_BUDGETS;
     b = enter(binding_of(vulkan));
-    status = follow_driver(b);
+    read_budgets(b, &budgets);
+    follow_driver(b->common, &budgets);
     leave(b);
-    return status;
+    return PILHANGKO_OK;
 }
 
 pilhangko_status PILHANGKO_CALL pilhangko_vulkan_set_budget(
@@ -792,6 +725,11 @@ pilhangko_status PILHANGKO_CALL pilhangko_vulkan_set_heap_limit(
     if (!vulkan->opaque) return PILHANGKO_NO_HANDLE;
     b = enter(binding_of(vulkan));
     status = pilhangko_allocator_set_heap_limit(&b->allocator, heap, has_limit, bytes);
+    if (status == PILHANGKO_OK) {
+        b->common->limits[heap].exists = has_limit;
+        b->common->limits[heap].bytes = has_limit ? bytes : 0;
+        share_bounds(b->common);
+    }
     leave(b);
     if (status == PILHANGKO_NO_SUCH_HEAP) return PILHANGKO_VULKAN_NO_SUCH_HEAP;
     return status;
@@ -799,13 +737,13 @@ pilhangko_status PILHANGKO_CALL pilhangko_vulkan_set_heap_limit(
 
 pilhangko_status PILHANGKO_CALL pilhangko_vulkan_heap_limit(const pilhangko_vulkan *vulkan, uint32_t heap, pilhangko_budget *limit) {
     struct binding *b;
-    pilhangko_status status;
     if (!vulkan || !limit) return PILHANGKO_NULL_POINTER;
     if (!vulkan->opaque) return PILHANGKO_NO_HANDLE;
     b = enter(binding_of(vulkan));
-    status = pilhangko_allocator_heap_limit(&b->allocator, heap, limit);
+    memset(limit, 0, sizeof *limit);
+    if (heap < b->common->properties.memoryHeapCount) *limit = b->common->limits[heap];
     leave(b);
-    return status;
+    return PILHANGKO_OK;
 }
 
 /* ---- create and destroy ---- */
@@ -857,24 +795,21 @@ pilhangko_status PILHANGKO_CALL pilhangko_vulkan_load(pilhangko_vulkan_functions
     return PILHANGKO_OK;
 }
 
-static pilhangko_allocator_settings allocator_settings(const pilhangko_vulkan_settings *settings, VkDeviceSize granularity) {
-    pilhangko_allocator_settings s;
-    s.page_size = granularity;
-    s.device_block_size = or_else(settings->device_block_size, UINT64_C(256) << 20);
-    s.largest_device_block_size = settings->largest_device_block_size;
-    s.host_block_size = or_else(settings->host_block_size, UINT64_C(64) << 20);
-    s.largest_host_block_size = settings->largest_host_block_size;
-    return s;
-}
+/* What a binding and a pool are both made with. */
+struct block_settings {
+    VkDeviceSize device_size, largest_device_size, host_size, largest_host_size;
+    pilhangko_vulkan_write capture_write;
+    void *capture_user;
+};
 
-/* Makes the allocator, with at most as many blocks as the driver grants. */
-static pilhangko_status create_allocator(struct binding *b, const pilhangko_allocator_settings *settings, uint32_t most_blocks) {
-    const VkPhysicalDeviceMemoryProperties *p = &b->properties;
+/* Makes the allocator, and begins the capture with the device. */
+static pilhangko_status create_allocator(struct binding *b, const struct block_settings *blocks) {
+    const VkPhysicalDeviceMemoryProperties *p = &b->common->properties;
+    const pilhangko_allocator_settings s = {b->common->granularity, or_else(blocks->device_size, UINT64_C(256) << 20),
+        blocks->largest_device_size, or_else(blocks->host_size, UINT64_C(64) << 20), blocks->largest_host_size};
     pilhangko_device_memory_type types[VK_MAX_MEMORY_TYPES];
     pilhangko_device_heap heaps[VK_MAX_MEMORY_HEAPS];
     pilhangko_status status;
-    if (p->memoryTypeCount > VK_MAX_MEMORY_TYPES) return PILHANGKO_TOO_MANY_TYPES;
-    if (p->memoryHeapCount > VK_MAX_MEMORY_HEAPS) return PILHANGKO_VULKAN_TOO_MANY_HEAPS;
     for (uint32_t i = 0; i < p->memoryTypeCount; i++) {
         types[i].flags = p->memoryTypes[i].propertyFlags;
         types[i].heap = p->memoryTypes[i].heapIndex;
@@ -883,70 +818,140 @@ static pilhangko_status create_allocator(struct binding *b, const pilhangko_allo
         heaps[i].size = p->memoryHeaps[i].size;
         heaps[i].flags = p->memoryHeaps[i].flags;
     }
-    status = pilhangko_allocator_create(&b->allocator, types, p->memoryTypeCount, heaps, p->memoryHeapCount, settings);
-    if (status != PILHANGKO_OK || most_blocks == 0) return status;
-    return pilhangko_allocator_set_most_blocks(&b->allocator, true, most_blocks);
-}
-
-static void keep_settings(struct binding *b, const pilhangko_vulkan_settings *settings) {
-    memset(b, 0, sizeof *b);
-    b->number = next_number();
-    b->functions = *settings->functions;
-    b->over.physical_device = settings->physical_device;
-    b->over.device = settings->device;
-    b->over.functions = &b->functions;
-    b->over.api_version = settings->api_version;
-    if (settings->allocation_callbacks) {
-        b->callbacks = *settings->allocation_callbacks;
-        b->over.allocation_callbacks = &b->callbacks;
-    }
-    begin_table(&b->live, sizeof(struct live));
-    b->memory_budget = settings->memory_budget;
-    b->device_address = settings->buffer_device_address;
-    b->is_locked_outside = settings->externally_synchronized;
-    b->capture.end = settings->capture_write ? CAPTURE_WHOLE : CAPTURE_NONE;
-    b->capture.write = settings->capture_write;
-    b->capture.user = settings->capture_user;
-}
-
-/* Reads the device, and makes the allocator over it. */
-static pilhangko_status begin_binding(struct binding *b, const pilhangko_vulkan_settings *settings) {
-    VkPhysicalDeviceProperties device;
-    pilhangko_allocator_settings s;
-    pilhangko_status status;
-    keep_settings(b, settings);
-    memset(&device, 0, sizeof device);
-    b->functions.vkGetPhysicalDeviceProperties(b->over.physical_device, &device);
-    b->functions.vkGetPhysicalDeviceMemoryProperties(b->over.physical_device, &b->properties);
-    b->atom = device.limits.nonCoherentAtomSize;
-    s = allocator_settings(settings, device.limits.bufferImageGranularity);
-    if (!is_power_of_two(b->atom)) return PILHANGKO_VULKAN_INVALID_ATOM_SIZE;
-    status = create_allocator(b, &s, device.limits.maxMemoryAllocationCount);
-    if (status == PILHANGKO_OK && is_captured(b)) capture_device(&b->capture, &b->properties, &s);
+    status = pilhangko_allocator_create(&b->allocator, types, p->memoryTypeCount, heaps, p->memoryHeapCount, &s);
+    if (status == PILHANGKO_OK && is_captured(b)) capture_device(&b->capture, p, &s);
     return status;
 }
 
+/* Begins a binding without blocks over what it has in common with its pools, or with the binding that it is a pool of. */
+static pilhangko_status begin_binding(struct binding *b, struct common *common, const struct block_settings *blocks) {
+    b->number = next_number();
+    b->common = common;
+    b->type_bits = UINT32_MAX;
+    begin_table(&b->live, sizeof(struct live));
+    b->capture.end = blocks->capture_write ? CAPTURE_WHOLE : CAPTURE_NONE;
+    b->capture.write = blocks->capture_write;
+    b->capture.user = blocks->capture_user;
+    return create_allocator(b, blocks);
+}
+
+static void keep_settings(struct common *c, const pilhangko_vulkan_settings *settings) {
+    c->functions = *settings->functions;
+    c->over.physical_device = settings->physical_device;
+    c->over.device = settings->device;
+    c->over.functions = &c->functions;
+    c->over.api_version = settings->api_version;
+    c->over.memory_type_bits = UINT32_MAX;
+    if (settings->allocation_callbacks) {
+        c->callbacks = *settings->allocation_callbacks;
+        c->over.allocation_callbacks = &c->callbacks;
+    }
+    c->memory_budget = settings->memory_budget;
+    c->device_address = settings->buffer_device_address;
+    c->is_locked_outside = settings->externally_synchronized;
+}
+
+static pilhangko_status read_properties(struct common *c) {
+    VkPhysicalDeviceProperties device;
+    memset(&device, 0, sizeof device);
+    c->functions.vkGetPhysicalDeviceProperties(c->over.physical_device, &device);
+    c->functions.vkGetPhysicalDeviceMemoryProperties(c->over.physical_device, &c->properties);
+    c->atom = device.limits.nonCoherentAtomSize;
+    c->granularity = device.limits.bufferImageGranularity;
+    c->most_blocks = device.limits.maxMemoryAllocationCount;
+    if (!is_power_of_two(c->atom)) return PILHANGKO_VULKAN_INVALID_ATOM_SIZE;
+    if (c->properties.memoryTypeCount > VK_MAX_MEMORY_TYPES) return PILHANGKO_TOO_MANY_TYPES;
+    if (c->properties.memoryHeapCount > VK_MAX_MEMORY_HEAPS) return PILHANGKO_VULKAN_TOO_MANY_HEAPS;
+    return PILHANGKO_OK;
+}
+
+/* A binding that is no pool. */
+struct parent {
+    struct binding binding;
+    struct common common;
+};
+
+/* Reads the device, and makes the allocator over it. */
+static pilhangko_status begin_parent(struct parent *parent, const pilhangko_vulkan_settings *settings) {
+    const struct block_settings blocks = {settings->device_block_size, settings->largest_device_block_size, settings->host_block_size,
+        settings->largest_host_block_size, settings->capture_write, settings->capture_user};
+    pilhangko_status status;
+    keep_settings(&parent->common, settings);
+    status = read_properties(&parent->common);
+    if (status != PILHANGKO_OK) return status;
+    status = begin_binding(&parent->binding, &parent->common, &blocks);
+    if (status != PILHANGKO_OK) return status;
+    parent->common.first = &parent->binding;
+    share_bounds(&parent->common);
+    if (make_mutex(&parent->common.lock)) return status;
+    (void)pilhangko_allocator_destroy(&parent->binding.allocator);
+    forget_text(&parent->binding.capture.device);
+    return PILHANGKO_HOST_OUT_OF_MEMORY;
+}
+
 pilhangko_status PILHANGKO_CALL pilhangko_vulkan_create(pilhangko_vulkan *vulkan, const pilhangko_vulkan_settings *settings) {
-    struct binding *b;
+    struct parent *parent;
     pilhangko_status status;
     if (!vulkan || !settings || !settings->physical_device || !settings->device || !settings->functions) return PILHANGKO_NULL_POINTER;
     if (vulkan->opaque) return PILHANGKO_IN_USE;
     if (!has_functions(settings->functions)) return PILHANGKO_VULKAN_NO_FUNCTION;
     if (settings->memory_budget && !settings->functions->vkGetPhysicalDeviceMemoryProperties2) return PILHANGKO_VULKAN_NO_FUNCTION;
-    b = (struct binding *)malloc(sizeof *b);
-    if (!b) return PILHANGKO_HOST_OUT_OF_MEMORY;
-    status = begin_binding(b, settings);
-    if (status == PILHANGKO_OK && !make_mutex(&b->lock)) {
-        (void)pilhangko_allocator_destroy(&b->allocator);
-        forget_text(&b->capture.device);
-        status = PILHANGKO_HOST_OUT_OF_MEMORY;
-    }
+    parent = (struct parent *)malloc(sizeof *parent);
+    if (!parent) return PILHANGKO_HOST_OUT_OF_MEMORY;
+    memset(parent, 0, sizeof *parent);
+    status = begin_parent(parent, settings);
+    if (status == PILHANGKO_OK) vulkan->opaque = &parent->binding;
+    else free(parent);
+    return status;
+}
+
+static pilhangko_status begin_pool(struct binding *pool, struct common *common, const pilhangko_vulkan_pool_settings *settings) {
+    const struct block_settings blocks = {settings->device_block_size, settings->largest_device_block_size, settings->host_block_size,
+        settings->largest_host_block_size, settings->capture_write, settings->capture_user};
+    const pilhangko_status status = begin_binding(pool, common, &blocks);
+    if (settings->memory_type_bits != 0) pool->type_bits = settings->memory_type_bits;
+    pool->next = settings->next;
+    pool->most_blocks = settings->most_blocks;
+    return status;
+}
+
+/* Whether the device has one of these memory types. */
+static bool has_type(const struct common *c, uint32_t bits) {
+    for (uint32_t i = 0; i < c->properties.memoryTypeCount; i++)
+        if (bits >> i & 1) return true;
+    return false;
+}
+
+/* Behind the binding that it is a pool of, between enter and leave. */
+static void join(struct binding *pool) {
+    struct binding *first = pool->common->first;
+    pool->next_pool = first->next_pool;
+    first->next_pool = pool;
+    share_bounds(pool->common);
+}
+
+pilhangko_status PILHANGKO_CALL pilhangko_vulkan_create_pool(
+    pilhangko_vulkan *parent, const pilhangko_vulkan_pool_settings *settings, pilhangko_vulkan *pool) {
+    struct binding *made;
+    pilhangko_status status;
+    if (!parent || !settings || !pool) return PILHANGKO_NULL_POINTER;
+    if (!parent->opaque) return PILHANGKO_NO_HANDLE;
+    if (pool->opaque) return PILHANGKO_IN_USE;
+    if (settings->memory_type_bits != 0 && !has_type(binding_of(parent)->common, settings->memory_type_bits)) return PILHANGKO_NO_SUCH_TYPE;
+    if (has_struct(settings->next, VK_STRUCTURE_TYPE_MEMORY_DEDICATED_ALLOCATE_INFO)) return PILHANGKO_INVALID;
+    made = (struct binding *)malloc(sizeof *made);
+    if (!made) return PILHANGKO_HOST_OUT_OF_MEMORY;
+    memset(made, 0, sizeof *made);
+    status = begin_pool(made, binding_of(parent)->common, settings);
     if (status != PILHANGKO_OK) {
-        free(b);
+        free(made);
         return status;
     }
-    vulkan->opaque = b;
-    return PILHANGKO_OK;
+    (void)enter(made);
+    join(made);
+    leave(made);
+    pool->opaque = made;
+    return status;
 }
 
 pilhangko_status PILHANGKO_CALL pilhangko_vulkan_end_capture(pilhangko_vulkan *vulkan, pilhangko_vulkan_capture *capture) {
@@ -971,19 +976,33 @@ static void give_back_all(const struct binding *b) {
                 give_back(b, block.memory, block.mapped);
 }
 
+/* A pool goes, between enter and leave. */
+static void part(const struct binding *pool) {
+    struct binding *before = pool->common->first;
+    while (before->next_pool != pool) before = before->next_pool;
+    before->next_pool = pool->next_pool;
+    share_bounds(pool->common);
+}
+
 pilhangko_status PILHANGKO_CALL pilhangko_vulkan_destroy(pilhangko_vulkan *vulkan, pilhangko_vulkan_ending *ending) {
     struct binding *b;
+    bool is_pool;
     pilhangko_vulkan_ending told;
     if (!vulkan) return PILHANGKO_NULL_POINTER;
     b = binding_of(vulkan);
     if (!b) return PILHANGKO_NO_HANDLE;
+    is_pool = b->common->first != b;
+    if (!is_pool && b->next_pool) return PILHANGKO_IN_USE;
+    (void)enter(b);
     told.leaks = b->live_count;
     told.capture = end_capture(b, "destroy\n");
     give_back_all(b);
+    if (is_pool) part(b);
+    leave(b);
     (void)pilhangko_allocator_destroy(&b->allocator);
     free(b->live.records);
-    drop_mutex(&b->lock);
-    free(b);
+    if (!is_pool) drop_mutex(&b->common->lock);
+    free(b); /* a parent whole: it begins with its binding */
     vulkan->opaque = NULL;
     if (ending) *ending = told;
     return PILHANGKO_OK;

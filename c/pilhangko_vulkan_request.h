@@ -64,9 +64,9 @@ static inline uint32_t unspoken_types(const VkPhysicalDeviceMemoryProperties *p,
     return bits;
 }
 
-/* What the allocator is asked for. Memory with a chain, and a transient one, is a piece's own: for a buffer alone that isn't named, where no
- * resource is. */
-static inline pilhangko_status asks_for(const VkPhysicalDeviceMemoryProperties *p, VkDeviceSize atom,
+/* What the allocator is asked for, of these memory types. Memory with a chain, and a transient one, is a piece's own: for a buffer alone that isn't
+ * named, where no resource is. */
+static inline pilhangko_status asks_for(const VkPhysicalDeviceMemoryProperties *p, VkDeviceSize atom, uint32_t type_bits,
     const pilhangko_vulkan_request *request, struct wanted *wanted) {
     const bool for_buffer = request->scheme == PILHANGKO_SCHEME_BUFFER, for_image = request->scheme == PILHANGKO_SCHEME_IMAGE;
     pilhangko_allocator_request *asks = &wanted->asks;
@@ -77,7 +77,7 @@ static inline pilhangko_status asks_for(const VkPhysicalDeviceMemoryProperties *
     wanted->name = request->name;
     asks->size = request->requirements.size;
     asks->alignment = greater_alignment(request->requirements.alignment, request->minimal_alignment);
-    asks->memory_type_bits = request->requirements.memoryTypeBits;
+    asks->memory_type_bits = request->requirements.memoryTypeBits & type_bits;
     if (request->memory_type_bits != 0) asks->memory_type_bits &= request->memory_type_bits;
     if (wanted->by_flags) asks->memory_type_bits &= ~unspoken_types(p, wanted->preference.required | wanted->preference.preferred);
     asks->kind = request->kind;

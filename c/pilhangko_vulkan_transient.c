@@ -245,7 +245,7 @@ pilhangko_vulkan_result PILHANGKO_CALL pilhangko_vulkan_create_transient(pilhang
     w.name = name;
     if (has_room(&w, count)) {
         w.page_size = page_size_of(&w.device);
-        w.type_bits = types_of_location(vulkan, location);
+        w.type_bits = types_of_location(vulkan, location) & w.device.memory_type_bits;
         result = create(&w, resources, count, transient);
     } else {
         forget_made(&w.made);

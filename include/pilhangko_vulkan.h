@@ -74,7 +74,7 @@ typedef struct pilhangko_vulkan {
     void *opaque; /* the library's own */
 } pilhangko_vulkan;
 
-/* Takes the next bytes of a capture, and says whether it could. It calls nothing of the same handle. */
+/* Takes the next bytes of a capture, and says whether it could. It calls nothing of the same binding and its pools. */
 typedef bool(PILHANGKO_CALL *pilhangko_vulkan_write)(void *user, const char *bytes, size_t length);
 
 /* All zeros but the first three fields are settings that work. A block size of 0 is 256 MB for memory that the host can't see and 64 MB for
@@ -131,8 +131,38 @@ typedef struct pilhangko_vulkan_ending {
 
 /* Ends a binding: writes the capture, if one is under way, gives each block back to the driver, and leaves the handle empty. Buffers and
  * images are the caller's to destroy before. ending may be NULL.
- * NULL_POINTER: the handle. NO_HANDLE. */
+ * NULL_POINTER: the handle. NO_HANDLE. IN_USE: it has pools. */
 PILHANGKO_API pilhangko_status PILHANGKO_CALL pilhangko_vulkan_destroy(pilhangko_vulkan *vulkan, pilhangko_vulkan_ending *ending);
+
+/* ---- Pools ---- */
+
+/* All zeros are settings that work. Sizes of blocks and the capture are as those of a binding. */
+typedef struct pilhangko_vulkan_pool_settings {
+    uint32_t memory_type_bits; /* the memory types that its blocks may be of; 0 for all of them */
+    const void *next;          /* what is chained to VkMemoryAllocateInfo for each of its blocks; NULL for nothing */
+    size_t most_blocks;        /* how many it may have; 0 where the device alone bounds that */
+    VkDeviceSize device_block_size;
+    VkDeviceSize largest_device_block_size;
+    VkDeviceSize host_block_size;
+    VkDeviceSize largest_host_block_size;
+    pilhangko_vulkan_write capture_write;
+    void *capture_user;
+} pilhangko_vulkan_pool_settings;
+
+/* Makes a pool in an empty handle: a binding over the same device whose blocks are apart from its parent's. Each call of a binding serves it: its
+ * requests are narrowed to its memory types, and its allocations are refused by its parent (NOT_LIVE), as its parent's are by it.
+ * pilhangko_vulkan_destroy ends it. A pool of a pool is one of the same parent.
+ *
+ * The parent outlives its pools, and a pool's chain lives as long as the pool. It has what may be asked of any block: a priority, handle types for
+ * export; no import. Where a request has a chain, that counts in its place.
+ *
+ * Pools and their parent are called on any threads at once: they share the parent's lock, so between lock and unlock of one no other one is called.
+ * Together they have no more blocks than the driver grants, and one limit of each heap: read_heap, update_budgets and the calls of limits speak of
+ * all of them, whichever is asked. Budgets of memory types are each one's.
+ * NULL_POINTER. NO_HANDLE: the parent's. IN_USE: the pool's handle isn't empty. NO_SUCH_TYPE: the device has none of the memory types. INVALID: a
+ * VkMemoryDedicatedAllocateInfo in the chain. HOST_OUT_OF_MEMORY. */
+PILHANGKO_NODISCARD PILHANGKO_API pilhangko_status PILHANGKO_CALL pilhangko_vulkan_create_pool(
+    pilhangko_vulkan *parent, const pilhangko_vulkan_pool_settings *settings, pilhangko_vulkan *pool);
 
 /* ---- Memory ---- */
 
@@ -499,7 +529,7 @@ PILHANGKO_NODISCARD PILHANGKO_API pilhangko_status PILHANGKO_CALL pilhangko_vulk
 typedef struct pilhangko_vulkan_heap {
     VkDeviceSize size;
     VkMemoryHeapFlags flags;
-    VkDeviceSize held; /* the sum of the sizes of this binding's blocks */
+    VkDeviceSize held; /* the sum of the sizes of the blocks, also of pools */
     bool has_budget;   /* whether VK_EXT_memory_budget is enabled */
     VkDeviceSize usage;
     VkDeviceSize budget;
@@ -510,7 +540,7 @@ typedef struct pilhangko_vulkan_heap {
 PILHANGKO_NODISCARD PILHANGKO_API pilhangko_status PILHANGKO_CALL pilhangko_vulkan_read_heap(
     const pilhangko_vulkan *vulkan, uint32_t heap, pilhangko_vulkan_heap *read);
 
-/* Limits each heap to what this binding holds there and what the heap has left now, by the driver: once a frame, say.
+/* Limits each heap to what is held there and what it has left now, by the driver: once a frame, say.
  * NULL_POINTER. NO_HANDLE. NO_BUDGETS. */
 PILHANGKO_NODISCARD PILHANGKO_API pilhangko_status PILHANGKO_CALL pilhangko_vulkan_update_budgets(pilhangko_vulkan *vulkan);
 
@@ -538,7 +568,7 @@ PILHANGKO_NODISCARD PILHANGKO_API pilhangko_status PILHANGKO_CALL pilhangko_vulk
 PILHANGKO_NODISCARD PILHANGKO_API const pilhangko_allocator *PILHANGKO_CALL pilhangko_vulkan_allocator(const pilhangko_vulkan *vulkan);
 
 /* Keeps the other threads' calls of this binding waiting until unlock, for calls on the allocator behind it. Between them this thread calls
- * nothing of the binding itself. Without effect where the binding is externally_synchronized.
+ * nothing of the binding itself and its pools. Without effect where the binding is externally_synchronized.
  * NULL_POINTER. NO_HANDLE. */
 PILHANGKO_API pilhangko_status PILHANGKO_CALL pilhangko_vulkan_lock(const pilhangko_vulkan *vulkan);
 
@@ -555,6 +585,7 @@ typedef struct pilhangko_vulkan_device {
     const pilhangko_vulkan_functions *functions;
     const VkAllocationCallbacks *allocation_callbacks; /* NULL for none */
     uint32_t api_version;
+    uint32_t memory_type_bits; /* the memory types that its blocks may be of: fewer than all of a pool */
 } pilhangko_vulkan_device;
 
 /* What a binding was made over, for calls of the driver beside it.

@@ -1,9 +1,9 @@
 /* 200,000 random calls of the Vulkan binding over a fake driver that refuses some of its questions, each beside a plain account: every
  * status, place and number has to be the account's, and what the driver holds the account's blocks. A shorter run is captured; given the
  * names of two files, the capture goes to the first, and to the second what gpu_trace has to reply to it. */
-#include "allocator_account.h"
 #include "fake_vulkan.h"
 #include "refusing_heap.h"
+#include "vulkan_replies.h"
 
 #define LIVE 300
 #define UNTOLD UINT64_MAX /* the number of a block in the account before an allocation in it has told it */
@@ -25,84 +25,13 @@ static struct live live[LIVE];
 static size_t live_count;
 static pilhangko_vulkan_allocation stale[STALE];
 static uint64_t last_serial;
-static FILE *replies;                                    /* what the captured calls came to, or NULL */
-static pilhangko_budget captured_budgets[ACCOUNT_TYPES]; /* as the capture has them by now */
-static pilhangko_budget bounds[ACCOUNT_TYPES];           /* as they were before the request */
+static struct replies replies; /* what the captured calls came to */
 static unsigned allocated, made, refused, second_attempts, freed, not_live, renamed, flushed, shared_after_all, moved, stayed;
 static unsigned chained, flagged, dearer;
 
 static const char *const names[] = {NULL, "", "vertices", "a name that takes host memory of its own", "\xc3\xa9t\xc3\xa9 2",
     "a name of more than sixty-four bytes, which no trace can have as it stands here"};
 #define SOME_NAME names[random_below(6)]
-
-/* ---- what has to be replied to a capture */
-
-static const char *word_of(bool it) {
-    return it ? "true" : "false";
-}
-
-static void reply(const char *line) {
-    if (replies) fprintf(replies, "%s\n", line);
-}
-
-static uint64_t held_in(size_t heap) {
-    uint64_t bytes = 0;
-    for (size_t i = 0; i < account.type_count; i++) bytes += account.heap[i] == heap ? type_capacity(&account.types[i]) : 0;
-    return bytes;
-}
-
-/* The bound of a memory type: its own, what the other memory types of its heap leave of that heap's limit, or what it has where no block may
- * come; the least of these. */
-static pilhangko_budget bound_of(size_t type) {
-    const size_t heap = account.heap[type];
-    const uint64_t has = type_capacity(&account.types[type]), others = held_in(heap) - has, limit = account.limit[heap];
-    uint64_t least = account.types[type].has_budget ? account.types[type].budget : UINT64_MAX;
-    const bool is_full = account.has_most && block_count(&account) >= account.most_blocks;
-    if (account.has_limit[heap] && least > (limit > others ? limit - others : 0)) least = limit > others ? limit - others : 0;
-    if (is_full && least > has) least = has;
-    const bool exists = account.types[type].has_budget || account.has_limit[heap] || is_full;
-    const pilhangko_budget bound = {exists, exists ? least : 0};
-    return bound;
-}
-
-/* Before an allocation and at the end the capture has those bounds that are others than before. */
-static void reply_budgets(void) {
-    for (size_t i = 0; i < account.type_count; i++) {
-        if (bounds[i].exists != captured_budgets[i].exists || bounds[i].bytes != captured_budgets[i].bytes) reply("ok");
-        captured_budgets[i] = bounds[i];
-    }
-}
-
-/* Those that are captured, if anything is, before what comes next. */
-static void looks_at_bounds(void) {
-    for (size_t i = 0; i < account.type_count; i++) bounds[i] = bound_of(i);
-}
-
-static void reply_place(size_t type, const pilhangko_memory_piece *p, bool dedicated, bool mapped) {
-    char line[200];
-    reply_budgets();
-    snprintf(line, sizeof line, "ok type %zu slot %zu offset %llu size %llu chunk %llu dedicated %s mapped %s", type, p->slot,
-        (unsigned long long)p->offset, (unsigned long long)p->size, (unsigned long long)p->number, word_of(dedicated), word_of(mapped));
-    reply(line);
-}
-
-static void reply_allocation(const pilhangko_allocator_piece *p, bool dedicated) {
-    reply_place(p->memory_type, &p->piece, dedicated, p->address != 0);
-}
-
-static void reply_no_place(void) {
-    reply_budgets();
-    reply("none");
-}
-
-/* INVALID requests aren't captured, and of those by flags only what they lead to; the two statuses that have the number 6 in a trace are told apart here. */
-static void reply_refusal(pilhangko_status status) {
-    char line[32];
-    if (status == PILHANGKO_INVALID || account.by_flags) return;
-    reply_budgets();
-    snprintf(line, sizeof line, "error E%u", status == PILHANGKO_DRIVER_REFUSED ? 6 : status);
-    reply(line);
-}
 
 /* ---- an allocation, foretold */
 
@@ -136,7 +65,7 @@ static void foretell_answer(struct foretold *f, uint64_t first) {
 
 /* What the account makes of a request whose first question would be the one behind `first`; flags choose where there are some. */
 static struct foretold foretell(const pilhangko_allocator_request *request, const pilhangko_preference *flags, uint64_t first) {
-    looks_at_bounds();
+    replies_look(&replies);
     struct foretold f = {flags ? account_begin_by_flags(&account, request, "", flags) : account_begin_request(&account, request, ""), 0, VK_SUCCESS};
     while (f.status == PILHANGKO_OK && account.awaits_answer) foretell_answer(&f, first);
     if (f.status == PILHANGKO_OK) f.driver = VK_SUCCESS;
@@ -327,14 +256,14 @@ static void allocates(void) {
         meets(&it.allocation);
         is_chained(&it.allocation, more.next);
         CHECK(it.allocation.dedicated == dedicated);
-        reply_allocation(&it.allocation.piece, dedicated);
+        replies_allocation(&replies, &it.allocation.piece, dedicated);
         keeps(&it);
         allocated++;
         second_attempts += !more.by_flags && account.is_second;
         counts_flags(&more);
     } else {
         CHECK(it.allocation.offset == 1 && it.allocation.piece.piece.number == 5 && it.allocation.serial == 9);
-        reply_refusal(f.status);
+        replies_refusal(&replies, f.status);
         refused++;
     }
 }
@@ -362,9 +291,9 @@ static void is_unbound(void) {
     const pilhangko_allocator_piece piece = {account.type, (account.flags[account.type] & 2) != 0, account.placed.piece};
     const long at = allocator_find(&account, &piece);
     CHECK(at >= 0);
-    reply_allocation(&piece, account.request.scheme != PILHANGKO_SCHEME_MANAGED);
+    replies_allocation(&replies, &piece, account.request.scheme != PILHANGKO_SCHEME_MANAGED);
     type_free(&account.types[account.type], &piece.piece, at);
-    reply("ok");
+    replies_line(&replies, "ok");
     last_serial++;
 }
 
@@ -372,7 +301,7 @@ static void is_unbound(void) {
 static void foretell_shared(
     const pilhangko_allocator_request *asks, const pilhangko_preference *flags, uint64_t first, struct foretold *f) {
     pilhangko_allocator_request shared = *asks;
-    reply_refusal(f->status);
+    replies_refusal(&replies, f->status);
     shared.scheme = PILHANGKO_SCHEME_MANAGED;
     const struct foretold again = foretell(&shared, flags, first + f->questions);
     f->status = again.status;
@@ -394,7 +323,7 @@ static struct foretold foretell_resource(const pilhangko_allocator_request *asks
     f.questions++;
     if (f.status != PILHANGKO_OK && may_share) foretell_shared(asks, flags, first, &f);
     if (f.status != PILHANGKO_OK) {
-        reply_refusal(f.status);
+        replies_refusal(&replies, f.status);
         return f;
     }
     refusal = fake_refusal_of(first + ++f.questions);
@@ -431,7 +360,7 @@ static void creates(void) {
         meets(&it.allocation);
         is_chained(&it.allocation, more.next);
         CHECK(it.allocation.dedicated == (account.request.scheme != PILHANGKO_SCHEME_MANAGED));
-        reply_allocation(&it.allocation.piece, it.allocation.dedicated);
+        replies_allocation(&replies, &it.allocation.piece, it.allocation.dedicated);
         keeps(&it);
         made++;
         counts_flags(&more);
@@ -475,7 +404,7 @@ static void frees(void) {
     type_free(&account.types[a.piece.memory_type], &a.piece.piece, allocator_find(&account, &a.piece));
     IS(frees_one(&live[i], &a), PILHANGKO_OK);
     IS(pilhangko_vulkan_free(&vulkan, &a), PILHANGKO_NOT_LIVE);
-    reply("ok");
+    replies_line(&replies, "ok");
     stale[random_below(STALE)] = a;
     live[i] = live[--live_count];
     freed++;
@@ -489,7 +418,7 @@ static void renames(void) {
     CHECK(told == is_live);
     IS(pilhangko_vulkan_rename(&vulkan, &a, "\xff"), PILHANGKO_INVALID);
     IS(pilhangko_vulkan_rename(&vulkan, &a, SOME_NAME), is_live ? PILHANGKO_OK : PILHANGKO_NOT_LIVE);
-    if (is_live) reply("ok");
+    if (is_live) replies_line(&replies, "ok");
     renamed += is_live;
 }
 
@@ -516,7 +445,7 @@ static void moves_one(void) {
     const pilhangko_memory_request asks = {a.size, it.alignment, it.kind, false};
     const bool is_of_it = request.requirements.size == a.size && request.scheme == PILHANGKO_SCHEME_MANAGED;
     const pilhangko_status status = i == live_count ? PILHANGKO_NOT_LIVE : is_of_it ? PILHANGKO_OK : PILHANGKO_INVALID;
-    looks_at_bounds();
+    replies_look(&replies);
     if (status == PILHANGKO_OK) account.type = a.piece.memory_type;
     const bool wanted = status == PILHANGKO_OK &&
                         type_place(&account.types[account.type], a.piece.piece.slot + 1, &asks, "", &account.placed.piece);
@@ -530,12 +459,12 @@ static void moves_one(void) {
     stayed += !moves;
     if (!moves) {
         CHECK(it.allocation.serial == 0);
-        reply_no_place();
+        replies_no_place(&replies);
         return;
     }
     meets(&it.allocation);
     CHECK(!it.allocation.dedicated);
-    reply_allocation(&it.allocation.piece, false);
+    replies_allocation(&replies, &it.allocation.piece, false);
     keeps(&it);
     moved++;
 }
@@ -561,7 +490,7 @@ static void keeps_second(struct live *it) {
     it->buffer = VK_NULL_HANDLE;
     it->image = VK_NULL_HANDLE;
     meets(&it->allocation);
-    reply_allocation(&it->allocation.piece, false);
+    replies_allocation(&replies, &it->allocation.piece, false);
     keeps(it);
 }
 
@@ -570,6 +499,14 @@ static void goes_by_account(size_t index) {
     if (live[index].buffer) fake_destroy_buffer((VkDevice)(uintptr_t)2, live[index].buffer, NULL);
     if (live[index].image) fake_destroy_image((VkDevice)(uintptr_t)2, live[index].image, NULL);
     type_free(&account.types[p->memory_type], &p->piece, allocator_find(&account, p));
+}
+
+static void reply(const char *line) {
+    replies_line(&replies, line);
+}
+
+static void reply_no_place(void) {
+    replies_no_place(&replies);
 }
 
 #define NAMED(rest) pilhangko_vulkan##rest
@@ -640,7 +577,7 @@ static void updates_budgets(void) {
         const uint64_t usage = fake.usage + heap, left = fake.budget > usage ? fake.budget - usage : 0;
         pilhangko_budget told;
         account.has_limit[heap] = true;
-        account.limit[heap] = held_in(heap) + left;
+        account.limit[heap] = held_in(&account, heap) + left;
         IS(pilhangko_vulkan_heap_limit(&vulkan, heap, &told), PILHANGKO_OK);
         CHECK(told.exists && told.bytes == account.limit[heap]);
     }
@@ -689,7 +626,7 @@ static void step(void) {
     } else if (live_count < LIVE && what >= 820) {
         moves_one();
     } else if (what >= 790 && what < 796) {
-        looks_at_bounds();
+        replies_look(&replies);
         proposes_frame();
     } else if (what >= 796 && what < 820) {
         ends_move();
@@ -718,8 +655,8 @@ static void begins(FILE *capture, uint32_t most_blocks) {
     settings.capture_user = capture;
     live_count = last_serial = 0;
     memset(stale, 0, sizeof stale);
-    memset(captured_budgets, 0, sizeof captured_budgets);
     begins_moves();
+    replies_begin(&replies, replies.file, &account);
     account.type_count = 5;
     account.heap_count = 3;
     memset(account.has_limit, 0, sizeof account.has_limit);
@@ -731,7 +668,7 @@ static void begins(FILE *capture, uint32_t most_blocks) {
         type_begin(&account.types[i], 4 * MB, account.flags[i] & 2 ? 8 * MB : 4 * MB, FAKE_GRANULARITY);
     }
     IS(pilhangko_vulkan_create(&vulkan, &settings), PILHANGKO_OK);
-    reply("ok");
+    replies_line(&replies, "ok");
 }
 
 /* Some allocations leak; their blocks go back to the driver all the same. */
@@ -744,14 +681,14 @@ static void ends(void) {
         const pilhangko_allocator_piece *piece = &it.allocation.piece;
         IS(frees_one(&it, &it.allocation), PILHANGKO_OK);
         type_free(&account.types[piece->memory_type], &piece->piece, allocator_find(&account, piece));
-        reply("ok");
+        replies_line(&replies, "ok");
     }
     IS(pilhangko_vulkan_destroy(&vulkan, &ending), PILHANGKO_OK);
     CHECK(ending.leaks == live_count && fake.memory_count == 0);
-    CHECK(ending.capture.end == (replies ? PILHANGKO_VULKAN_CAPTURE_WHOLE : PILHANGKO_VULKAN_CAPTURE_NONE));
-    looks_at_bounds();
-    reply_budgets();
-    reply("held 0");
+    CHECK(ending.capture.end == (replies.file ? PILHANGKO_VULKAN_CAPTURE_WHOLE : PILHANGKO_VULKAN_CAPTURE_NONE));
+    replies_look(&replies);
+    replies_bounds(&replies);
+    replies_line(&replies, "held 0");
     for (size_t i = 0; i < live_count; i++) { /* the buffers and images of the leaks */
         if (live[i].buffer) fake_destroy_buffer((VkDevice)(uintptr_t)2, live[i].buffer, NULL);
         if (live[i].image) fake_destroy_image((VkDevice)(uintptr_t)2, live[i].image, NULL);
@@ -761,14 +698,14 @@ static void ends(void) {
 
 static void captured_run(const char *capture_name, const char *replies_name) {
     FILE *capture = fopen(capture_name, "wb");
-    replies = fopen(replies_name, "wb");
-    CHECK(capture && replies);
+    replies.file = fopen(replies_name, "wb");
+    CHECK(capture && replies.file);
     random_state = 77;
     begins(capture, 12);
     for (unsigned i = 0; i < 6000; i++) step();
     ends();
-    CHECK(fclose(capture) == 0 && fclose(replies) == 0);
-    replies = NULL;
+    CHECK(fclose(capture) == 0 && fclose(replies.file) == 0);
+    replies.file = NULL;
 }
 
 int main(int count, char **words) {
