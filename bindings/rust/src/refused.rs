@@ -12,7 +12,7 @@ use crate::plan::{MemoryNeeds, Resource};
 use crate::virtual_block::VirtualRequest;
 use crate::vulkan::{
     AllocationCreateDesc, AllocationScheme, Allocator, AllocatorCreateDesc, Defragmentation, MemoryRequirements, Move,
-    TransientCreateDesc, TransientResource, UploadRing,
+    PoolCreateDesc, TransientCreateDesc, TransientResource, UploadRing,
 };
 use crate::{plan, AllocationError, AllocationSizes, Kind, MemoryLocation, MemoryType, Result, Ring, VirtualBlock};
 use common::FakeDriver;
@@ -148,6 +148,33 @@ fn of_the_vulkan_allocator() {
     assert_eq!(commands, pieces); // what the host refused isn't captured
     driver.assert_left_empty();
     assert_eq!(held(), 0);
+}
+
+#[test]
+fn of_pools() {
+    let driver = FakeDriver::new(&[(1, 0), (7, 0)], &[1 << 30], 64);
+    let mut allocator = Allocator::new(&AllocatorCreateDesc::new(driver.device())).unwrap();
+    let desc = PoolCreateDesc { capture: true, ..PoolCreateDesc::default() };
+    let unchanged = |it: &Allocator| assert_eq!((it.capacity(), driver.state().questions), (0, 0));
+    let (mut pool, refusals) = in_turn(&mut allocator, |it| it.create_pool(&desc), unchanged);
+    assert!(refusals > 0);
+    let request = AllocationCreateDesc {
+        name: NAME,
+        requirements: MemoryRequirements { size: 100, alignment: 4, memory_type_bits: 3 },
+        location: MemoryLocation::CpuToGpu,
+        linear: true,
+        allocation_scheme: AllocationScheme::GpuAllocatorManaged,
+    };
+    let (piece, refusals) = in_turn(&mut pool, |it| it.allocate(&request), unchanged);
+    assert!(refusals > 0);
+    refuse(1); // no later call needs any
+    pool.free(piece).unwrap();
+    drop(allocator);
+    drop(pool);
+    assert!(!has_refused());
+    refuse(0);
+    assert_eq!(held(), 0);
+    driver.assert_left_empty();
 }
 
 #[test]

@@ -4,71 +4,18 @@
 
 mod common;
 
-use common::resources::{Alone, Needs};
-use common::{Asked, Chained, FakeDriver, Question, Refusal, EXPORT, MB, PRIORITY};
-use pilhangko::vulkan::{
-    Allocation, AllocationBlock, AllocationCreateDesc, AllocationOptions, AllocationScheme, Allocator,
-    AllocatorCreateDesc, Buffer, BufferCreateInfo, Chain, Device, Heap, HeapBudget, Image, ImageCreateInfo,
-    MemoryAllocateFlagsInfo, MemoryPropertyFlags, MemoryRequirements, Placement,
+use common::requests::{
+    asked_for, calls_of, captured, chain, driver, exported, fault, made, memory, priority, request, HEAPS, TYPES,
 };
-use pilhangko::{AllocationError, AllocationSizes, Fault, MemoryLocation, Result};
-use std::ffi::c_void;
-use std::ptr::{null, NonNull};
-
-/// The device's own; the host's; both, in a small heap; the host's, which needs flushes.
-const TYPES: [(u32, u32); 4] = [(1, 0), (6, 1), (7, 2), (10, 1)];
-const HEAPS: [u64; 3] = [1024 * MB, 512 * MB, 24 * MB];
-
-fn driver() -> Box<FakeDriver> {
-    let driver = FakeDriver::new(&TYPES, &HEAPS, 1024).with_atoms(64);
-    driver.state().needs = Needs { alignment: 16, memory_type_bits: 15, alone: Alone::No };
-    driver
-}
-
-fn made(device: Device) -> Allocator {
-    let allocation_sizes = AllocationSizes::new(4 * MB, 4 * MB);
-    let desc =
-        AllocatorCreateDesc { allocation_sizes, buffer_device_address: true, ..AllocatorCreateDesc::new(device) };
-    Allocator::new(&desc).expect("the device makes sense")
-}
-
-fn request(size: u64, alignment: u64, bits: u32, location: MemoryLocation) -> AllocationCreateDesc<'static> {
-    AllocationCreateDesc {
-        name: "piece",
-        requirements: MemoryRequirements { size, alignment, memory_type_bits: bits },
-        location,
-        linear: true,
-        allocation_scheme: AllocationScheme::GpuAllocatorManaged,
-    }
-}
-
-fn memory(it: &Allocation) -> u64 {
-    // SAFETY: the handle is only looked up.
-    unsafe { it.memory() }.0
-}
-
-fn asked_for(driver: &FakeDriver, it: &Allocation) -> Asked {
-    driver.state().held[&memory(it)].asked
-}
-
-fn fault(text: &'static str, code: Option<i64>) -> AllocationError {
-    AllocationError::Internal(Fault { text, code })
-}
-
-/// A priority of three quarters, and one handle type for export.
-fn exported() -> Chained<u32> {
-    Chained { s_type: EXPORT, next: null(), value: 1 }
-}
-
-fn priority(next: &Chained<u32>) -> Chained<f32> {
-    Chained { s_type: PRIORITY, next: (&raw const *next).cast(), value: 0.75 }
-}
-
-fn chain<T>(first: &T) -> Chain<'_> {
-    let first: *const T = first;
-    // SAFETY: the structs live as long as they are borrowed, and the driver reads them.
-    unsafe { Chain::new(NonNull::new(first.cast_mut().cast::<c_void>()).expect("a struct has an address")) }
-}
+use common::resources::{Alone, Needs};
+use common::{Asked, FakeDriver, Question, Refusal, MB};
+use pilhangko::vulkan::{
+    Allocation, AllocationBlock, AllocationCreateDesc, AllocationOptions, AllocationScheme, Allocator, Buffer,
+    BufferCreateInfo, Heap, HeapBudget, Image, ImageCreateInfo, MemoryAllocateFlagsInfo, MemoryPropertyFlags,
+    Placement,
+};
+use pilhangko::{AllocationError, Fault, MemoryLocation, Result};
+use std::ptr::null;
 
 /// Behind one byte a piece begins at its alignment.
 #[test]
@@ -226,12 +173,7 @@ fn flags_choose_the_cheapest_memory() {
 #[test]
 fn full_memory_leads_to_the_next() {
     let driver = driver();
-    let desc = AllocatorCreateDesc {
-        allocation_sizes: AllocationSizes::new(4 * MB, 4 * MB),
-        capture: true,
-        ..AllocatorCreateDesc::new(driver.device())
-    };
-    let mut a = Allocator::new(&desc).unwrap();
+    let mut a = captured(driver.device());
     let anywhere = request(100, 4, 15, MemoryLocation::Unknown);
     driver.refuse(1, Refusal::Code(-2));
     let first = a.allocate_with(&anywhere, &AllocationOptions::staging()).unwrap();
@@ -541,12 +483,7 @@ fn budgets_follow_the_driver() {
 #[test]
 fn memory_types_of_a_heap_share_its_limit() {
     let driver = driver();
-    let desc = AllocatorCreateDesc {
-        allocation_sizes: AllocationSizes::new(4 * MB, 4 * MB),
-        capture: true,
-        ..AllocatorCreateDesc::new(driver.device())
-    };
-    let mut a = Allocator::new(&desc).unwrap();
+    let mut a = captured(driver.device());
     assert_eq!(a.set_heap_limit(3, Some(1)), Err(fault("No such memory heap.", None)));
     a.set_heap_limit(1, Some(8 * MB)).unwrap();
     let [first, second] = [2, 8].map(|bits| a.allocate(&request(MB, 64, bits, MemoryLocation::Unknown)).unwrap());
@@ -557,8 +494,7 @@ fn memory_types_of_a_heap_share_its_limit() {
     a.set_heap_limit(1, None).unwrap();
     assert_eq!(a.allocate(&large).map(|_| ()), Err(AllocationError::BudgetExceeded)); // by the budget
     a.free(first).unwrap();
-    let trace = a.destroy().unwrap().to_string();
-    let calls = trace.split_once("new\n").unwrap().1;
+    let calls = calls_of(a.destroy());
     let expected = "budget 1 8388608\nbudget 3 8388608\nalloc 1 1048576 64 2 Unknown linear managed piece\n\
         budget 3 4194304\nalloc 2 1048576 64 8 Unknown linear managed piece\n\
         budget 1 4194304\nalloc 3 4194304 64 2 Unknown linear managed piece\nfree 2\n\
@@ -571,12 +507,7 @@ fn memory_types_of_a_heap_share_its_limit() {
 #[test]
 fn blocks_are_no_more_than_the_driver_grants() {
     let driver = FakeDriver::new(&TYPES, &HEAPS, 1024).with_most_memories(2);
-    let desc = AllocatorCreateDesc {
-        allocation_sizes: AllocationSizes::new(4 * MB, 4 * MB),
-        capture: true,
-        ..AllocatorCreateDesc::new(driver.device())
-    };
-    let mut a = Allocator::new(&desc).unwrap();
+    let mut a = captured(driver.device());
     let wanted = request(100, 4, 1, MemoryLocation::Unknown);
     let own =
         AllocationCreateDesc { allocation_scheme: AllocationScheme::DedicatedBuffer(Buffer(7)), ..wanted.clone() };
@@ -590,13 +521,13 @@ fn blocks_are_no_more_than_the_driver_grants() {
     let third = a.allocate(&host).unwrap();
     assert_eq!(driver.state().questions, 4);
     [first, second, third].into_iter().for_each(|it| a.free(it).unwrap());
-    let trace = a.destroy().unwrap().to_string();
+    let calls = calls_of(a.destroy());
     let expected = "alloc 1 100 4 1 Unknown linear managed piece\nalloc 2 100 4 1 Unknown linear buffer:7 piece\n\
         budget 0 4194404\nbudget 1 0\nbudget 2 0\nbudget 3 0\nalloc 3 100 4 1 Unknown linear managed piece\n\
         alloc 4 100 4 1 Unknown linear buffer:7 piece\nalloc 5 100 4 2 Unknown linear managed piece\nfree 2\n\
         budget 0 none\nbudget 1 none\nbudget 2 none\nbudget 3 none\nalloc 6 100 4 2 Unknown linear managed piece\n\
         free 1\nfree 3\nfree 6\nbudget 0 4194304\nbudget 1 4194304\nbudget 2 0\nbudget 3 0\ndestroy\n";
-    assert_eq!(trace.split_once("new\n").unwrap().1, expected);
+    assert_eq!(calls, expected);
     driver.assert_left_empty();
 }
 

@@ -6,6 +6,7 @@ use super::capture::Capture;
 use super::device::{Answer, Device, Purpose, Refusal};
 use super::machine::{LiveBlock, Machine, Progress, Question};
 use super::options::{AllocationOptions, Chain};
+use super::pool::{lock, Common, PoolCreateDesc};
 use super::reading;
 use crate::defragmentation::propose_some;
 use crate::error::{check, copied};
@@ -141,6 +142,10 @@ pub struct Allocator {
     owner: u64,
     requests: u64,
     device_address: bool,
+    /// The memory types that its blocks may be of.
+    pub(super) memory_type_bits: u32,
+    /// What is chained where its blocks are asked for.
+    next: Option<Chain<'static>>,
     debug_settings: AllocatorDebugSettings,
     logger: Option<Logger>,
     pub(super) capture: Option<Capture>,
@@ -159,12 +164,30 @@ impl Allocator {
             owner: next_owner(),
             requests: 0,
             device_address: desc.buffer_device_address,
+            memory_type_bits: u32::MAX,
+            next: None,
             capture: desc.capture.then(|| Capture::new(device, allocation_sizes)).transpose()?,
             debug_settings: desc.debug_settings,
             logger: desc.logger.clone(),
         };
         allocator.log_device();
         Ok(allocator)
+    }
+
+    /// The pool over a machine that was made for it.
+    pub(super) fn apart(&self, desc: &PoolCreateDesc, machine: Machine) -> Result<Self> {
+        let capture = desc.capture.then(|| Capture::new(self.device(), &desc.allocation_sizes)).transpose()?;
+        Ok(Allocator {
+            machine,
+            owner: next_owner(),
+            requests: 0,
+            device_address: self.device_address,
+            memory_type_bits: desc.memory_type_bits.unwrap_or(u32::MAX),
+            next: desc.next,
+            debug_settings: self.debug_settings,
+            logger: self.logger.clone(),
+            capture,
+        })
     }
 
     /// Allocates a piece: of a shared block with a place, or of a new one that the driver is asked for. An upload (`CpuToGpu`) whose first
@@ -192,12 +215,16 @@ impl Allocator {
         let preference = options.preference(desc.location)?;
         let by_flags = preference.is_some();
         let requirements = options.narrow(desc.requirements, self.device().memory_types(), by_flags);
-        let requirements = self.device().in_whole_atoms(requirements);
+        let requirements = self.narrow(requirements);
         let allocation_scheme = options.scheme(desc.allocation_scheme);
         let desc = AllocationCreateDesc { requirements, allocation_scheme, ..desc.clone() };
         self.requests += 1;
+        let common = self.machine.share.common();
+        let mut common = lock(&common);
+        self.machine.follow(&common);
         self.note_bounds();
-        let result = self.serve(&desc, preference.as_ref(), options.next);
+        let result = self.serve(&desc, preference.as_ref(), options.next, &mut common);
+        drop(common);
         if let Some(capture) = &mut self.capture {
             match &result {
                 Err(AllocationError::HostOutOfMemory) => capture.undo(),
@@ -247,10 +274,10 @@ impl Allocator {
         desc: &AllocationCreateDesc<'_>,
     ) -> Result<Option<Allocation>> {
         let own = copied(desc.name)?;
-        self.note_bounds();
+        self.follow_others();
         let held = self.live(allocation)?;
         let (piece, number) = (held.piece, held.number);
-        let requirements = self.device().in_whole_atoms(desc.requirements);
+        let requirements = self.narrow(desc.requirements);
         let desc = AllocationCreateDesc { requirements, ..desc.clone() };
         let to = self.machine.propose_move(&piece, &desc)?;
         if let Some(capture) = &mut self.capture {
@@ -394,7 +421,7 @@ impl Allocator {
 
     /// Drops the allocator, and returns what was asked of it, up to its end, where that is recorded.
     pub fn destroy(mut self) -> Option<Capture> {
-        self.note_bounds();
+        self.follow_others();
         let mut capture = self.capture.take()?;
         capture.destroyed();
         Some(capture)
@@ -406,9 +433,10 @@ impl Allocator {
         desc: &AllocationCreateDesc<'_>,
         preference: Option<&Preference>,
         next: Option<Chain<'_>>,
+        common: &mut Common,
     ) -> Result<Allocation> {
         let name = copied(desc.name)?;
-        let piece = self.place(desc, preference, next)?;
+        let piece = self.place(desc, preference, next, common)?;
         Ok(Allocation { held: Some(self.held(piece, desc.allocation_scheme)), name: Some(name), user_data: 0 })
     }
 
@@ -418,7 +446,9 @@ impl Allocator {
         desc: &AllocationCreateDesc<'_>,
         preference: Option<&Preference>,
         next: Option<Chain<'_>>,
+        common: &mut Common,
     ) -> Result<AllocatorPiece> {
+        let next = next.or(self.next);
         let purpose = Purpose { scheme: desc.allocation_scheme, device_address: self.device_address, next };
         let mut progress = match preference {
             None => self.machine.begin(desc)?,
@@ -430,7 +460,7 @@ impl Allocator {
                 Progress::Piece(piece) => return Ok(piece),
                 Progress::Refused(status) => return Err(error_of(status, refusal)),
                 Progress::Question(question) => match self.ask(&question, purpose, preference.is_some()) {
-                    Answer::Granted(memory) => return Ok(self.machine.granted(memory)),
+                    Answer::Granted(memory) => return Ok(self.machine.granted(memory, common)),
                     Answer::MemoryRefused(refused) => {
                         refusal = Some(refused);
                         self.machine.refused(refused.memory_code())
@@ -442,6 +472,12 @@ impl Allocator {
                 },
             }
         }
+    }
+
+    /// What is needed of its memory types, in whole atoms.
+    fn narrow(&self, needs: MemoryRequirements) -> MemoryRequirements {
+        let memory_type_bits = needs.memory_type_bits & self.memory_type_bits;
+        self.device().in_whole_atoms(MemoryRequirements { memory_type_bits, ..needs })
     }
 
     /// Of a request by flags a capture has the attempt that served alone.
@@ -615,9 +651,11 @@ mod tests {
         };
         let begin = Instant::now();
         let mut machine = Machine::new(&driver.device(), &AllocationSizes::default()).unwrap();
+        let common = machine.share.common();
+        let mut common = lock(&common);
         for number in 1..=20_000 {
             assert!(matches!(machine.begin(&own), Ok(Progress::Question(_))));
-            machine.granted(Memory { handle: DeviceMemory(number), address: None });
+            machine.granted(Memory { handle: DeviceMemory(number), address: None }, &mut common);
         }
         let alone = begin.elapsed();
         std::mem::forget(machine); // the driver never gave this memory, and takes none of it back

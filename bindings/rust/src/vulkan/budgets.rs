@@ -3,6 +3,7 @@
 use super::abi::PhysicalDeviceMemoryProperties;
 use super::allocator::Allocator;
 use super::device::Device;
+use super::pool::lock;
 use super::resource_abi::{
     GetPhysicalDeviceMemoryProperties2, MemoryBudgetProperties, PhysicalDeviceMemoryProperties2,
 };
@@ -27,7 +28,7 @@ pub struct Heap {
     pub size: u64,
     /// `VkMemoryHeapFlags`.
     pub flags: u32,
-    /// The sum of the sizes of the allocator's blocks in it.
+    /// The sum of the sizes of the blocks in it, of the allocator and its pools.
     pub held: u64,
     /// What the driver tells of it, where VK_EXT_memory_budget is enabled.
     pub budget: Option<HeapBudget>,
@@ -66,21 +67,26 @@ impl Allocator {
     /// What a heap has, and what the driver tells of it now; `None` where there is no such heap.
     pub fn read_heap(&self, heap: usize) -> Option<Heap> {
         let it = self.device().memory_heaps().get(heap)?;
-        let held = self.held_in(heap);
+        let held = lock(&self.machine.share.common()).held_in(heap);
         let told = self.device().read_budgets();
         let budget = told.map(|told| HeapBudget { usage: told.heap_usage[heap], budget: told.heap_budget[heap] });
         Some(Heap { size: it.size, flags: it.flags, held, budget })
     }
 
-    /// Limits each heap to what the allocator holds there and what the heap has left now, by the driver: once a frame, say.
+    /// Limits each heap to what is held there and what it has left now, by the driver: once a frame, say.
     ///
     /// The error: `Internal` where the device tells of no budgets ([`Device::with_memory_budget`]).
     pub fn update_budgets(&mut self) -> Result<()> {
+        let common = self.machine.share.common();
+        let mut common = lock(&common); // no block comes or goes meanwhile
         let told = self.device().read_budgets().ok_or(internal("The device tells of no budgets."))?;
         for heap in 0..self.device().memory_heaps().len() {
             let left = told.heap_budget[heap].saturating_sub(told.heap_usage[heap]);
-            self.set_heap_limit(heap, Some(self.held_in(heap).saturating_add(left)))?;
+            let limit = common.held_in(heap).saturating_add(left);
+            common.set_limit(heap, Some(limit));
         }
+        drop(common);
+        self.follow_others();
         Ok(())
     }
 
@@ -90,16 +96,24 @@ impl Allocator {
     ///
     /// The error: `Internal` where there is no such heap.
     pub fn set_heap_limit(&mut self, heap: usize, limit: Option<u64>) -> Result<()> {
-        if !self.machine.set_heap_limit(heap, limit) {
+        if heap >= self.device().memory_heaps().len() {
             return Err(internal("No such memory heap."));
         }
-        self.note_bounds();
+        lock(&self.machine.share.common()).set_limit(heap, limit);
+        self.follow_others();
         Ok(())
     }
 
     /// The limit of a heap in bytes; `None` where it has none, or isn't there.
     pub fn heap_limit(&self, heap: usize) -> Option<u64> {
-        self.machine.heap_limit(heap)
+        lock(&self.machine.share.common()).limit(heap)
+    }
+
+    /// Takes over what pools, or the allocator that this is a pool of, leave of the bounds, and notes it.
+    pub(super) fn follow_others(&mut self) {
+        let common = self.machine.share.common();
+        self.machine.follow(&lock(&common));
+        self.note_bounds();
     }
 
     /// Notes the bounds of memory types by which the next request is served, where it is captured. A trace bounds no heaps, and not how many blocks
@@ -113,12 +127,12 @@ impl Allocator {
     fn bound_of(&self, index: usize) -> Option<u64> {
         let heap = self.device().memory_types()[index].heap_index as usize;
         let held = self.type_capacity(index).unwrap_or(0);
-        let left = self.heap_limit(heap).map(|limit| limit.saturating_sub(self.held_in(heap) - held));
+        let left = self.machine.heap_limit(heap).map(|limit| limit.saturating_sub(self.held_in(heap) - held));
         let full = self.machine.is_full().then_some(held);
         [self.budget(index), left, full].into_iter().flatten().min()
     }
 
-    /// The sum of the sizes of a heap's blocks.
+    /// The sum of the sizes of its own blocks in a heap.
     fn held_in(&self, heap: usize) -> u64 {
         let types = self.device().memory_types().iter().enumerate();
         let lie_there = types.filter(|(_, it)| it.heap_index as usize == heap);

@@ -2,6 +2,7 @@
 
 use super::abi::DeviceMemory;
 use super::device::{Address, Memory};
+use super::pool::{lock, Common, Share};
 use super::{AllocationCreateDesc, AllocationScheme, Device, TypeStatistics};
 use crate::error::{check, check_unrefused};
 use crate::memory_type::BlockStatistics;
@@ -90,11 +91,22 @@ pub(super) struct Machine {
     handle: Handle,
     device: Device,
     blocks: usize,
+    most_blocks: Option<usize>,
+    pub(super) share: Share,
 }
 
 impl Machine {
     /// An allocator without blocks over a device whose properties make sense.
     pub(super) fn new(device: &Device, sizes: &AllocationSizes) -> Result<Self> {
+        Machine::over(device, sizes, Share::new())
+    }
+
+    /// Another one without blocks, within the same bounds.
+    pub(super) fn apart(&self, sizes: &AllocationSizes, most_blocks: Option<usize>) -> Result<Self> {
+        Machine::over(&self.device, sizes, self.share.another(most_blocks))
+    }
+
+    fn over(device: &Device, sizes: &AllocationSizes, share: Share) -> Result<Self> {
         let (types, heaps, sizes) = (device.memory_types(), device.memory_heaps(), sizes.parts());
         let settings = raw::AllocatorSettings {
             page_size: device.limits().buffer_image_granularity,
@@ -115,14 +127,7 @@ impl Machine {
                 &settings,
             )
         })?;
-        let machine = Machine { handle, device: device.clone(), blocks: 0 };
-        if let Some(most) = machine.most_blocks() {
-            // SAFETY: the handle is this machine's alone.
-            check_unrefused(unsafe {
-                raw::pilhangko_raw_allocator_set_most_blocks(machine.handle.as_ptr(), true, most)
-            });
-        }
-        Ok(machine)
+        Ok(Machine { handle, device: device.clone(), blocks: 0, most_blocks: None, share })
     }
 
     /// The device.
@@ -167,26 +172,35 @@ impl Machine {
         Ok(Progress::from_raw(&progress))
     }
 
-    /// How many blocks there may be, where that is bounded.
-    fn most_blocks(&self) -> Option<usize> {
-        let most = self.device.limits().max_memory_allocation_count as usize;
-        (most > 0).then_some(most)
+    /// Bounds how many blocks there may be, or takes the bound away.
+    pub(super) fn set_most_blocks(&mut self, most: Option<usize>) {
+        self.most_blocks = most;
+        // SAFETY: the handle is this machine's alone.
+        check_unrefused(unsafe {
+            raw::pilhangko_raw_allocator_set_most_blocks(self.handle.as_ptr(), most.is_some(), most.unwrap_or(0))
+        });
+    }
+
+    /// How many blocks there are.
+    pub(super) fn block_count(&self) -> usize {
+        self.blocks
     }
 
     /// Whether no block may come.
     pub(super) fn is_full(&self) -> bool {
-        self.most_blocks().is_some_and(|most| self.blocks >= most)
+        self.most_blocks.is_some_and(|most| self.blocks >= most)
     }
 
     /// The driver granted this memory. A question is open.
-    pub(super) fn granted(&mut self, memory: Memory) -> AllocatorPiece {
-        self.blocks += 1;
+    pub(super) fn granted(&mut self, memory: Memory, common: &mut Common) -> AllocatorPiece {
         let mut piece = AllocatorPiece::default();
         let address = memory.address.map_or(0, Address::number);
         // SAFETY: the handle is this machine's alone.
         check_unrefused(unsafe {
             raw::pilhangko_raw_allocator_granted(self.handle.as_ptr(), memory.handle.0, address, &mut piece)
         });
+        self.blocks += 1;
+        self.tell(common);
         piece
     }
 
@@ -215,12 +229,14 @@ impl Machine {
 
     /// Frees a piece, and gives its block back to the driver where that goes with it.
     pub(super) fn free(&mut self, piece: &AllocatorPiece) -> Result<()> {
-        let mut back = raw::AllocatorMemory::default();
+        let (common, mut back) = (self.share.common(), raw::AllocatorMemory::default());
+        let mut common = lock(&common);
         // SAFETY: the handle is this machine's alone, and the piece outlives the call.
         check(unsafe { raw::pilhangko_raw_allocator_free(self.handle.as_ptr(), piece, &mut back) })?;
         if back.exists {
-            self.blocks -= 1;
             self.device.give_back(memory_of(back.memory, back.address));
+            self.blocks -= 1;
+            self.tell(&mut common);
         }
         Ok(())
     }
@@ -464,7 +480,10 @@ impl Visited for BlockAt<'_> {
 
 impl Drop for Machine {
     fn drop(&mut self) {
+        let common = self.share.common();
+        let mut common = lock(&common);
         self.blocks().for_each(|block| self.device.give_back(block.memory));
+        self.share.tell(&mut common, 0, [0; 16]);
         // SAFETY: the handle is this machine's alone, and isn't used again.
         unsafe { raw::pilhangko_raw_allocator_destroy(self.handle.as_ptr()) };
     }

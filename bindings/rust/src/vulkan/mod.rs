@@ -41,6 +41,7 @@ mod device;
 mod flushing;
 mod machine;
 mod options;
+mod pool;
 mod reading;
 mod resource_abi;
 mod resources;
@@ -64,6 +65,7 @@ pub use capture::{Capture, CaptureEnd};
 pub use defragmentation::{Defragmentation, Move};
 pub use device::{Device, DeviceLimits};
 pub use options::{AllocationOptions, Chain};
+pub use pool::PoolCreateDesc;
 pub use resource_abi::{
     BindMemory, BufferCreateInfo, CreateResource, DestroyResource, FunctionsOf, GetMemoryRequirements,
     GetMemoryRequirements2, GetPhysicalDeviceMemoryProperties2, ImageCreateInfo, MemoryBudgetProperties,

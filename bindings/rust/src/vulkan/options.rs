@@ -109,13 +109,19 @@ pub struct Chain<'a> {
     structs: PhantomData<&'a ()>,
 }
 
+// SAFETY: its structs are only read, on whichever thread, and nobody changes them (`new`).
+unsafe impl Send for Chain<'_> {}
+
+// SAFETY: as above.
+unsafe impl Sync for Chain<'_> {}
+
 impl<'a> Chain<'a> {
     /// A chain by its first struct (ash: `NonNull::from(&info).cast()`). It is only read.
     ///
     /// # Safety
     ///
-    /// The caller promises that the structs of the chain live as long as `'a`, and that memory may be asked for with them of each device on
-    /// whose allocator the chain is used.
+    /// The caller promises that the structs of the chain live as long as `'a`, or in a pool's description as long as the pool, that nobody changes
+    /// them meanwhile, and that memory may be asked for with them of each device on whose allocator the chain is used.
     pub const unsafe fn new(first: NonNull<c_void>) -> Self {
         Chain { first: first.cast(), structs: PhantomData }
     }

@@ -159,7 +159,7 @@ impl Allocator {
         let mut needs = Vec::new();
         needs.try_reserve_exact(desc.resources.len())?;
         needs.extend(desc.resources.iter().map(|it| MemoryNeeds {
-            memory_type_bits: it.requirements.memory_type_bits & of_location,
+            memory_type_bits: it.requirements.memory_type_bits & self.memory_type_bits & of_location,
             dedicated: false,
         }));
         Ok(needs)

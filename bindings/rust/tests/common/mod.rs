@@ -13,6 +13,7 @@ use std::ptr;
 use std::sync::{Mutex, MutexGuard, PoisonError};
 
 pub mod account;
+pub mod requests;
 pub mod resources;
 pub mod script;
 
@@ -72,6 +73,8 @@ pub struct State {
     pub refusals: HashMap<u64, Refusal>,
     /// The memory that is held, by handle.
     pub held: BTreeMap<u64, Held>,
+    /// The most memories that were held at once.
+    pub most_held: usize,
     /// The questions that were refused since a test last emptied the list.
     pub refused: Vec<(Question, Refusal)>,
     /// What was made visible, in order.
@@ -106,6 +109,7 @@ impl State {
         self.meets(Question::Memory)?;
         self.last_handle += 16;
         self.held.insert(self.last_handle, Held { asked, mapped: None });
+        self.most_held = self.most_held.max(self.held.len());
         Ok(DeviceMemory(self.last_handle))
     }
 
