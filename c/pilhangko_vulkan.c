@@ -532,28 +532,17 @@ pilhangko_status PILHANGKO_CALL pilhangko_vulkan_read_device(const pilhangko_vul
  * such memory. */
 static pilhangko_vulkan_result allocate_for(struct binding *b, const struct resource *r, pilhangko_kind kind,
     const pilhangko_vulkan_placement *placement, pilhangko_vulkan_allocation *allocation) {
-    pilhangko_vulkan_request request;
+    pilhangko_vulkan_request request = request_for(placement);
     pilhangko_vulkan_result first, second;
     VkMemoryDedicatedRequirements alone;
     bool may_share;
-    memset(&request, 0, sizeof request);
     alone = requirements_of(&b->common->over, r, &request.requirements);
     may_share = !placement->dedicated && !placement->next && placement->location != PILHANGKO_VULKAN_LOCATION_TRANSIENT &&
                 !alone.requiresDedicatedAllocation;
-    request.location = placement->location;
     request.kind = kind;
-    request.scheme = is_image(r) ? PILHANGKO_SCHEME_IMAGE : PILHANGKO_SCHEME_BUFFER;
-    if (may_share && !alone.prefersDedicatedAllocation) request.scheme = PILHANGKO_SCHEME_MANAGED;
+    if (!may_share || alone.prefersDedicatedAllocation) request.scheme = is_image(r) ? PILHANGKO_SCHEME_IMAGE : PILHANGKO_SCHEME_BUFFER;
     request.buffer = r->buffer;
     request.image = r->image;
-    request.name = placement->name;
-    request.minimal_alignment = placement->minimal_alignment;
-    request.memory_type_bits = placement->memory_type_bits;
-    request.next = placement->next;
-    request.required_flags = placement->required_flags;
-    request.preferred_flags = placement->preferred_flags;
-    request.avoided_flags = placement->avoided_flags;
-    request.never_allocate = placement->never_allocate;
     first = allocate(b, &request, allocation);
     if (first.status == PILHANGKO_OK || first.status == PILHANGKO_HOST_OUT_OF_MEMORY) return first;
     if (!may_share || request.scheme == PILHANGKO_SCHEME_MANAGED) return first;

@@ -13,6 +13,23 @@ struct wanted {
     const char *name;
 };
 
+/* What a placement asks for, of memory that may be shared. */
+static inline pilhangko_vulkan_request request_for(const pilhangko_vulkan_placement *placement) {
+    pilhangko_vulkan_request request;
+    memset(&request, 0, sizeof request);
+    request.location = placement->location;
+    request.scheme = PILHANGKO_SCHEME_MANAGED;
+    request.name = placement->name;
+    request.minimal_alignment = placement->minimal_alignment;
+    request.memory_type_bits = placement->memory_type_bits;
+    request.next = placement->next;
+    request.required_flags = placement->required_flags;
+    request.preferred_flags = placement->preferred_flags;
+    request.avoided_flags = placement->avoided_flags;
+    request.never_allocate = placement->never_allocate;
+    return request;
+}
+
 static inline bool is_power_of_two(VkDeviceSize n) {
     return n != 0 && (n & (n - 1)) == 0;
 }
@@ -62,6 +79,14 @@ static inline uint32_t unspoken_types(const VkPhysicalDeviceMemoryProperties *p,
     for (uint32_t i = 0; i < p->memoryTypeCount; i++)
         if (p->memoryTypes[i].propertyFlags & by_feature & ~spoken) bits |= UINT32_C(1) << i;
     return bits;
+}
+
+/* The memory types that serve by flags: those that have all required ones. */
+static inline uint32_t serving_types(const VkPhysicalDeviceMemoryProperties *p, const pilhangko_preference *flags) {
+    uint32_t bits = 0;
+    for (uint32_t i = 0; i < p->memoryTypeCount; i++)
+        if ((p->memoryTypes[i].propertyFlags & flags->required) == flags->required) bits |= UINT32_C(1) << i;
+    return bits & ~unspoken_types(p, flags->required | flags->preferred);
 }
 
 /* What the allocator is asked for, of these memory types. Memory with a chain, and a transient one, is a piece's own: for a buffer alone that isn't

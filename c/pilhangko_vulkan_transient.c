@@ -1,6 +1,7 @@
 /* Transient resources over Pilhangko's Vulkan binding (include/pilhangko_vulkan.h): compile it with c/pilhangko_vulkan.c, as C11 or as C++11.
  * It makes the resources, asks the driver what they need, and binds them where pilhangko_plan puts them. */
 #include "pilhangko_vulkan_resource.h"
+#include "pilhangko_vulkan_request.h"
 #include <stdlib.h>
 
 /* ---- what a call works on ---- */
@@ -9,9 +10,8 @@ struct work {
     pilhangko_vulkan *vulkan;
     pilhangko_vulkan_device device;
     VkDeviceSize page_size;
-    pilhangko_location location;
-    const char *name;
-    uint32_t type_bits; /* of the memory types that have what the location needs */
+    pilhangko_vulkan_request request; /* what is asked for each set, but for what its resources need */
+    uint32_t type_bits;               /* of the memory types that have what it needs */
     pilhangko_vulkan_transient made;
     pilhangko_memory_needs *needs; /* of each resource, and the set that it is in */
     size_t *sets;
@@ -64,6 +64,25 @@ static uint32_t types_of_location(pilhangko_vulkan *vulkan, pilhangko_location l
         if (pilhangko_allocator_best_type(allocator, UINT32_C(1) << i, location, &best) == PILHANGKO_OK) bits |= UINT32_C(1) << i;
     (void)pilhangko_vulkan_unlock(vulkan);
     return bits;
+}
+
+/* The memory types that have all flags which that requires. */
+static uint32_t types_by_flags(const pilhangko_vulkan_device *d, const pilhangko_preference *flags) {
+    VkPhysicalDeviceMemoryProperties properties;
+    d->functions->vkGetPhysicalDeviceMemoryProperties(d->physical_device, &properties);
+    return serving_types(&properties, flags);
+}
+
+/* Takes over what is asked for each set. */
+static pilhangko_status begin_work(struct work *w, const pilhangko_vulkan_placement *placement) {
+    struct wanted wanted;
+    w->request = request_for(placement);
+    if (placement->dedicated || placement->location > PILHANGKO_VULKAN_LOCATION_STAGING) return PILHANGKO_INVALID;
+    if (choose(&w->request, &wanted) != PILHANGKO_OK) return PILHANGKO_INVALID;
+    w->type_bits = wanted.by_flags ? types_by_flags(&w->device, &wanted.preference) : types_of_location(w->vulkan, placement->location);
+    w->type_bits &= w->device.memory_type_bits;
+    if (placement->memory_type_bits != 0) w->type_bits &= placement->memory_type_bits;
+    return PILHANGKO_OK;
 }
 
 /* ---- resources ---- */
@@ -168,15 +187,11 @@ static pilhangko_status plan_set(struct work *w, size_t s, pilhangko_heap_memory
 
 /* What is asked for a set. One that is dedicated has one resource. */
 static pilhangko_vulkan_request request_of(const struct work *w, size_t s, const pilhangko_heap_memory *memory) {
-    pilhangko_vulkan_request request;
-    memset(&request, 0, sizeof request);
+    pilhangko_vulkan_request request = w->request;
     request.requirements.size = memory->size;
     request.requirements.alignment = memory->alignment;
     request.requirements.memoryTypeBits = UINT32_MAX;
-    request.location = w->location;
     request.kind = memory->kind;
-    request.scheme = PILHANGKO_SCHEME_MANAGED;
-    request.name = w->name;
     for (size_t i = 0; i < w->made.place_count; i++) {
         const pilhangko_vulkan_transient_place *place = &w->made.places[i];
         if (place->set != s) continue;
@@ -226,26 +241,24 @@ static pilhangko_vulkan_result create(
 /* ---- the calls ---- */
 
 pilhangko_vulkan_result PILHANGKO_CALL pilhangko_vulkan_create_transient(pilhangko_vulkan *vulkan,
-    const pilhangko_vulkan_transient_resource *resources, size_t count, pilhangko_location location, const char *name,
+    const pilhangko_vulkan_transient_resource *resources, size_t count, const pilhangko_vulkan_placement *placement,
     pilhangko_vulkan_transient *transient) {
     struct work w;
     pilhangko_status status;
     pilhangko_vulkan_result result;
-    if (!vulkan || (!resources && count) || !transient) return undriven(PILHANGKO_NULL_POINTER);
+    if (!vulkan || (!resources && count) || !placement || !transient) return undriven(PILHANGKO_NULL_POINTER);
     memset(&w, 0, sizeof w);
     status = pilhangko_vulkan_read_device(vulkan, &w.device);
     if (status != PILHANGKO_OK) return undriven(status);
     if (transient->places || transient->sets) return undriven(PILHANGKO_IN_USE);
-    if (location > PILHANGKO_LOCATION_GPU_TO_CPU) return undriven(PILHANGKO_INVALID);
+    w.vulkan = vulkan;
+    status = begin_work(&w, placement);
+    if (status != PILHANGKO_OK) return undriven(status);
     for (size_t i = 0; i < count; i++)
         if (!can_be_made(&resources[i])) return undriven(PILHANGKO_INVALID);
     if (count == 0) return undriven(PILHANGKO_OK);
-    w.vulkan = vulkan;
-    w.location = location;
-    w.name = name;
     if (has_room(&w, count)) {
         w.page_size = page_size_of(&w.device);
-        w.type_bits = types_of_location(vulkan, location) & w.device.memory_type_bits;
         result = create(&w, resources, count, transient);
     } else {
         forget_made(&w.made);

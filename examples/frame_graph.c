@@ -138,7 +138,8 @@ static void make_transient(void) {
         asked[i].first_pass = resources[i].first;
         asked[i].last_pass = resources[i].last;
     }
-    check(pilhangko_vulkan_create_transient(&vulkan, asked, count, PILHANGKO_LOCATION_GPU_ONLY, "frame", &transient).status);
+    const pilhangko_vulkan_placement placement = {.location = PILHANGKO_LOCATION_GPU_ONLY, .name = "frame"};
+    check(pilhangko_vulkan_create_transient(&vulkan, asked, count, &placement, &transient).status);
 }
 
 static void tell_plans(void) {

@@ -499,18 +499,19 @@ typedef struct pilhangko_vulkan_transient {
     size_t set_count;
 } pilhangko_vulkan_transient;
 
-/* Makes buffers and images, plans those that can share a memory type together (pilhangko_plan), and binds each set to one allocation. In the
- * order of the resources each one joins the first set with which it shares a memory type that has what the location needs, or begins one;
- * one for which the driver requires memory of its own is a set by itself. What was made is undone where something fails. Buffers and images
- * that are sparse or disjoint, and resources with two infos or none, or whose last pass comes before the first, are INVALID, and so is a location
- * of this binding's. name is each allocation's; NULL for none. Where count is 0, resources may be NULL.
+/* Makes buffers and images, plans those that can share a memory type together (pilhangko_plan), and binds each set to one allocation, as the
+ * placement says. In the order of the resources each one joins the first set with which it shares a memory type that has what the location or the
+ * flags need, or begins one; one for which the driver requires memory of its own is a set by itself. What was made is undone where something
+ * fails. Buffers and images that are sparse or disjoint, and resources with two infos or none, or whose last pass comes before the first, are
+ * INVALID, and so are a dedicated placement and PILHANGKO_VULKAN_LOCATION_TRANSIENT, whose memory isn't shared. Where count is 0, resources may be
+ * NULL.
  *
  * What a resource holds is undefined when its first pass begins: it takes bytes over from others. Between these and it goes a barrier
  * (transient_reuses), and an image begins in VK_IMAGE_LAYOUT_UNDEFINED.
  * NULL_POINTER. NO_HANDLE. IN_USE: transient isn't zeroed. INVALID. HOST_OUT_OF_MEMORY: the binding's own. CALL_FAILED: vkCreate... Then the
  * causes of pilhangko_plan and of pilhangko_vulkan_allocate. CALL_FAILED: vkBind... */
 PILHANGKO_NODISCARD PILHANGKO_API pilhangko_vulkan_result PILHANGKO_CALL pilhangko_vulkan_create_transient(pilhangko_vulkan *vulkan,
-    const pilhangko_vulkan_transient_resource *resources, size_t count, pilhangko_location location, const char *name,
+    const pilhangko_vulkan_transient_resource *resources, size_t count, const pilhangko_vulkan_placement *placement,
     pilhangko_vulkan_transient *transient);
 
 /* The places, by their indices, whose bytes the one at an index takes over, as with pilhangko_plan_reuses.

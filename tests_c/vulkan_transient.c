@@ -92,8 +92,10 @@ static void ask_image(size_t i, uint32_t size, VkImageTiling tiling, uint64_t fi
     asked[i] = (pilhangko_vulkan_transient_resource){NULL, &image_infos[i], first, last};
 }
 
+static const pilhangko_vulkan_placement on_gpu = {.location = PILHANGKO_LOCATION_GPU_ONLY, .name = "transient"};
+
 static pilhangko_vulkan_result create(pilhangko_vulkan *vulkan, size_t count, pilhangko_vulkan_transient *transient) {
-    return pilhangko_vulkan_create_transient(vulkan, asked, count, PILHANGKO_LOCATION_GPU_ONLY, "transient", transient);
+    return pilhangko_vulkan_create_transient(vulkan, asked, count, &on_gpu, transient);
 }
 
 /* ---- rows */
@@ -129,9 +131,10 @@ static void statuses_of_pointers(void) {
     pilhangko_vulkan_transient t = {0};
     size_t count;
     ask_buffer(0, 64, 0, 1);
-    IS(pilhangko_vulkan_create_transient(NULL, asked, 1, PILHANGKO_LOCATION_GPU_ONLY, NULL, &t).status, PILHANGKO_NULL_POINTER);
-    IS(pilhangko_vulkan_create_transient(&vulkan, NULL, 1, PILHANGKO_LOCATION_GPU_ONLY, NULL, &t).status, PILHANGKO_NULL_POINTER);
-    IS(pilhangko_vulkan_create_transient(&vulkan, asked, 1, PILHANGKO_LOCATION_GPU_ONLY, NULL, NULL).status, PILHANGKO_NULL_POINTER);
+    IS(pilhangko_vulkan_create_transient(NULL, asked, 1, &on_gpu, &t).status, PILHANGKO_NULL_POINTER);
+    IS(pilhangko_vulkan_create_transient(&vulkan, NULL, 1, &on_gpu, &t).status, PILHANGKO_NULL_POINTER);
+    IS(pilhangko_vulkan_create_transient(&vulkan, asked, 1, NULL, &t).status, PILHANGKO_NULL_POINTER);
+    IS(pilhangko_vulkan_create_transient(&vulkan, asked, 1, &on_gpu, NULL).status, PILHANGKO_NULL_POINTER);
     IS(create(&none, 1, &t).status, PILHANGKO_NO_HANDLE);
     IS(pilhangko_vulkan_destroy_transient(&none, &t), PILHANGKO_NO_HANDLE);
     IS(pilhangko_vulkan_destroy_transient(NULL, &t), PILHANGKO_NULL_POINTER);
@@ -163,16 +166,89 @@ static void statuses_of_resources(void) {
     asked[0].buffer_info = NULL, asked[0].image_info = NULL;
     IS(create(&vulkan, 1, &t).status, PILHANGKO_INVALID);
     ask_buffer(0, 64, 0, 1);
-    for (uint32_t location = PILHANGKO_VULKAN_LOCATION_STAGING; location <= 7; location++)
-        IS(pilhangko_vulkan_create_transient(&vulkan, asked, 1, (pilhangko_location)location, NULL, &t).status, PILHANGKO_INVALID);
+    const pilhangko_vulkan_placement refused[] = {{.location = PILHANGKO_VULKAN_LOCATION_TRANSIENT}, {.location = (pilhangko_location)7},
+        {.location = PILHANGKO_LOCATION_GPU_ONLY, .dedicated = true}, {.location = PILHANGKO_LOCATION_GPU_ONLY, .required_flags = 1},
+        {.location = PILHANGKO_VULKAN_LOCATION_STAGING, .avoided_flags = 1}, {.location = PILHANGKO_LOCATION_GPU_TO_CPU, .never_allocate = true}};
+    for (size_t i = 0; i < sizeof refused / sizeof *refused; i++)
+        IS(pilhangko_vulkan_create_transient(&vulkan, asked, 1, &refused[i], &t).status, PILHANGKO_INVALID);
     CHECK(fake.questions == 0);
     ask_buffer(0, UINT64_C(2) << 30, 0, 0); /* above its heap */
     IS(create(&vulkan, 1, &t).status, PILHANGKO_OUT_OF_MEMORY);
     types_differ = true;
     ask_buffer(0, 64, 0, 1); /* the device's own memory, which no host sees */
-    IS(pilhangko_vulkan_create_transient(&vulkan, asked, 1, PILHANGKO_LOCATION_CPU_TO_GPU, NULL, &t).status, PILHANGKO_NO_MEMORY_TYPE);
+    const pilhangko_vulkan_placement upload = {.location = PILHANGKO_LOCATION_CPU_TO_GPU};
+    IS(pilhangko_vulkan_create_transient(&vulkan, asked, 1, &upload, &t).status, PILHANGKO_NO_MEMORY_TYPE);
     types_differ = false;
     CHECK(fake.resource_count == 0 && !t.places);
+    ends(&vulkan);
+}
+
+/* Four buffers, of which memory types 1, 3, 4 and 31 are allowed (bits_of), alive in turn: in which set each is, and the memory type of each set. The
+ * last row allows the first one none. */
+static const struct {
+    pilhangko_vulkan_placement placement;
+    size_t sets[4], set_count, types[2];
+} choices[] = {
+    {{.required_flags = 1}, {0, 0, 1, 0}, 2, {0, 2}}, /* memory types 0 and 2 */
+    {{.preferred_flags = 2}, {0, 0, 1, 0}, 2, {0, 2}}, /* what a set has in common comes first */
+    {{.location = PILHANGKO_LOCATION_UNKNOWN, .memory_type_bits = 5}, {0, 0, 1, 0}, 2, {0, 2}},
+    {{.avoided_flags = 1, .memory_type_bits = 30}, {0}, 0, {0}},
+};
+
+static void chosen_memory(void) {
+    for (size_t row = 0; row < sizeof choices / sizeof *choices; row++) {
+        pilhangko_vulkan vulkan = made();
+        pilhangko_vulkan_transient t = {0};
+        types_differ = true;
+        for (size_t i = 0; i < 4; i++) ask_buffer(i, 64 * 16 + 16 * i, i, i);
+        IS(pilhangko_vulkan_create_transient(&vulkan, asked, 4, &choices[row].placement, &t).status,
+            choices[row].set_count ? PILHANGKO_OK : PILHANGKO_NO_MEMORY_TYPE);
+        CHECK(t.set_count == choices[row].set_count);
+        for (size_t i = 0; i < t.place_count; i++) CHECK(t.places[i].set == choices[row].sets[i]);
+        for (size_t s = 0; s < t.set_count; s++) CHECK(t.sets[s].allocation.piece.memory_type == choices[row].types[s]);
+        IS(pilhangko_vulkan_destroy_transient(&vulkan, &t), PILHANGKO_OK);
+        types_differ = false;
+        ends(&vulkan);
+    }
+}
+
+/* Where each memory type is allowed the flags choose as for a buffer, and a chain and an alignment count for the set. */
+static void cheapest_memory(void) {
+    const VkMemoryPriorityAllocateInfoEXT priority = {VK_STRUCTURE_TYPE_MEMORY_PRIORITY_ALLOCATE_INFO_EXT, NULL, 0.5F};
+    const pilhangko_vulkan_placement staged = {.location = PILHANGKO_VULKAN_LOCATION_STAGING, .minimal_alignment = 8192},
+                                     cached = {.required_flags = 2, .preferred_flags = 8, .memory_type_bits = 18, .next = &priority};
+    pilhangko_vulkan vulkan = made();
+    pilhangko_vulkan_transient t = {0};
+    const pilhangko_vulkan_request small = fake_request(16, 16, 2);
+    pilhangko_vulkan_allocation before;
+    IS(pilhangko_vulkan_allocate(&vulkan, &small, &before).status, PILHANGKO_OK);
+    ask_buffer(0, 4096, 0, 0);
+    ask_buffer(1, 4096, 1, 1);
+    IS(pilhangko_vulkan_create_transient(&vulkan, asked, 2, &staged, &t).status, PILHANGKO_OK);
+    CHECK(t.set_count == 1 && t.sets[0].allocation.memory == before.memory && t.sets[0].allocation.offset == 8192);
+    IS(pilhangko_vulkan_destroy_transient(&vulkan, &t), PILHANGKO_OK);
+    IS(pilhangko_vulkan_create_transient(&vulkan, asked, 2, &cached, &t).status, PILHANGKO_OK);
+    CHECK(t.set_count == 1 && t.sets[0].allocation.piece.memory_type == 4 && t.sets[0].allocation.size == 4096);
+    CHECK(fake_memory_of(t.sets[0].allocation.memory)->priority == 0.5F && fake_memory_of(t.sets[0].allocation.memory)->alone_for == 0);
+    IS(pilhangko_vulkan_destroy_transient(&vulkan, &t), PILHANGKO_OK);
+    IS(pilhangko_vulkan_free(&vulkan, &before), PILHANGKO_OK);
+    ends(&vulkan);
+}
+
+/* A pool's resources join by the memory types that it has. */
+static void in_a_pool(void) {
+    pilhangko_vulkan vulkan = made(), pool = {0};
+    const pilhangko_vulkan_pool_settings settings = {.memory_type_bits = 4, .host_block_size = 4 * MB};
+    const pilhangko_vulkan_placement anywhere = {.location = PILHANGKO_LOCATION_UNKNOWN};
+    pilhangko_vulkan_transient t = {0};
+    IS(pilhangko_vulkan_create_pool(&vulkan, &settings, &pool), PILHANGKO_OK);
+    ask_image(0, 4096, VK_IMAGE_TILING_OPTIMAL, 0, 0);
+    ask_image(1, 4096, VK_IMAGE_TILING_OPTIMAL, 1, 1);
+    IS(pilhangko_vulkan_create_transient(&pool, asked, 2, &anywhere, &t).status, PILHANGKO_OK);
+    CHECK(t.set_count == 1 && t.sets[0].allocation.piece.memory_type == 2);
+    IS(pilhangko_vulkan_destroy_transient(&vulkan, &t), PILHANGKO_NOT_LIVE);
+    IS(pilhangko_vulkan_destroy_transient(&pool, &t), PILHANGKO_OK);
+    IS(pilhangko_vulkan_destroy(&pool, NULL), PILHANGKO_OK);
     ends(&vulkan);
 }
 
@@ -370,6 +446,9 @@ int main(void) {
     statuses_of_pointers();
     statuses_of_resources();
     statuses_of_sets();
+    chosen_memory();
+    cheapest_memory();
+    in_a_pool();
     random_sets();
     each_question_refused();
     each_request_refused();

@@ -279,7 +279,7 @@ fn of_transient_resources() {
         last_pass: pass,
     };
     let resources = [buffer(1, 0), buffer(2, 0), buffer(1, 1)];
-    let desc = TransientCreateDesc { name: NAME, resources: &resources, location: MemoryLocation::GpuOnly };
+    let desc = TransientCreateDesc::new(NAME, &resources, MemoryLocation::GpuOnly);
     let nothing_left = |it: &Allocator| assert_eq!(it.statistics().pieces, 0);
     let (made, refusals) = in_turn(&mut allocator, |it| it.allocate_transient(&desc), nothing_left);
     assert!(refusals > 0);

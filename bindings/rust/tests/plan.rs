@@ -5,7 +5,10 @@ mod common;
 
 use common::{FakeDriver, Random, MB};
 use pilhangko::plan::{Memory, MemoryNeeds, Order, Resource};
-use pilhangko::vulkan::{Allocator, AllocatorCreateDesc, MemoryRequirements, TransientCreateDesc, TransientResource};
+use pilhangko::vulkan::{
+    AllocationOptions, Allocator, AllocatorCreateDesc, MemoryPropertyFlags, MemoryRequirements, TransientCreateDesc,
+    TransientResource,
+};
 use pilhangko::{plan, AllocationError, Kind, MemoryLocation};
 use std::cmp::Reverse;
 use std::collections::BTreeMap;
@@ -181,7 +184,7 @@ fn a_set_has_one_allocation() {
         transient(4000, 1, false, 2, 3),
         transient(100, 7, true, 1, 2),
     ];
-    let desc = TransientCreateDesc { name: "frame", resources: &resources, location: MemoryLocation::GpuOnly };
+    let desc = TransientCreateDesc::new("frame", &resources, MemoryLocation::GpuOnly);
     let made = allocator.allocate_transient(&desc).unwrap();
     let members: Vec<_> = made.sets().iter().map(|set| set.members().to_vec()).collect();
     assert_eq!(members, [vec![0, 2, 3], vec![1]]);
@@ -203,12 +206,49 @@ fn a_set_has_one_allocation() {
     driver.assert_left_empty();
 }
 
+/// Flags choose in place of the location: which memory types serve, and of those that a set has in common the cheapest.
+#[test]
+fn sets_by_flags() {
+    let driver = FakeDriver::new(&[(1, 0), (6, 0), (14, 0), (7, 0)], &[1 << 30], 1024);
+    let mut allocator = Allocator::new(&AllocatorCreateDesc::new(driver.device())).unwrap();
+    // the first two have memory types 0 and 1 in common, the third 2 and 3 with the second
+    let resources = [transient(4000, 3, true, 0, 0), transient(4000, 15, true, 1, 1), transient(4000, 12, true, 2, 2)];
+    let cached = AllocationOptions {
+        required_flags: MemoryPropertyFlags::HOST_VISIBLE,
+        preferred_flags: MemoryPropertyFlags::HOST_CACHED,
+        ..AllocationOptions::default()
+    };
+    let of_three = AllocationOptions { memory_type_bits: Some(13), ..AllocationOptions::default() };
+    for (options, sets, types) in [
+        (cached, [0, 0, 1], [1, 2]),
+        (AllocationOptions::staging(), [0, 0, 1], [1, 2]),
+        (of_three, [0, 0, 1], [0, 2]),
+        (AllocationOptions { avoided_flags: MemoryPropertyFlags::DEVICE_LOCAL, ..of_three }, [0, 0, 1], [0, 2]),
+    ] {
+        let desc =
+            TransientCreateDesc { options, ..TransientCreateDesc::new("frame", &resources, MemoryLocation::Unknown) };
+        let made = allocator.allocate_transient(&desc).unwrap();
+        assert_eq!(made.places().iter().map(|it| it.set).collect::<Vec<_>>(), sets);
+        let found: Vec<_> = made.sets().iter().map(|set| set.allocation().memory_type_index()).collect();
+        assert_eq!(found, types);
+        allocator.free_transient(made).unwrap();
+    }
+    let desc = TransientCreateDesc {
+        options: cached,
+        ..TransientCreateDesc::new("frame", &resources, MemoryLocation::GpuOnly)
+    };
+    let error = allocator.allocate_transient(&desc).unwrap_err();
+    assert_eq!(error, AllocationError::InvalidAllocationCreateDesc);
+    drop(allocator);
+    driver.assert_left_empty();
+}
+
 #[test]
 fn what_fails_leaves_nothing() {
     let driver = FakeDriver::new(&[(1, 0), (6, 0)], &[64 * MB], 1);
     let mut allocator = Allocator::new(&AllocatorCreateDesc::new(driver.device())).unwrap();
     let mut refused = |resources: &[TransientResource]| {
-        let desc = TransientCreateDesc { name: "frame", resources, location: MemoryLocation::GpuOnly };
+        let desc = TransientCreateDesc::new("frame", resources, MemoryLocation::GpuOnly);
         let error = allocator.allocate_transient(&desc).unwrap_err();
         assert_eq!(allocator.statistics().pieces, 0);
         error

@@ -192,7 +192,7 @@ fn transient_resources_join_by_the_memory_types_of_a_pool() {
         last_pass: pass,
     };
     let resources = [resource(3, 0), resource(5, 1), resource(2, 1)]; // the first two have memory type 0 alone in common
-    let desc = TransientCreateDesc { name: "frame", resources: &resources, location: MemoryLocation::Unknown };
+    let desc = TransientCreateDesc::new("frame", &resources, MemoryLocation::Unknown);
     let transient = pool.allocate_transient(&desc).unwrap();
     assert_eq!(transient.places().iter().map(|place| place.set).collect::<Vec<_>>(), [0, 1, 0]);
     let types = transient.sets().iter().map(|set| set.allocation().memory_type_index());

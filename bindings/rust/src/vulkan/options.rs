@@ -69,11 +69,18 @@ impl AllocationOptions<'_> {
             _ => Err(AllocationError::InvalidAllocationCreateDesc),
         }
     }
+
+    /// Of these memory types the bits of those that serve by its flags: that have all required ones.
+    pub(super) fn serving(&self, types: &[MemoryType]) -> u32 {
+        let has_all = |it: &MemoryType| it.property_flags.contains(self.required_flags);
+        bits_of(types, has_all) & !self.unspoken(types)
+    }
+
     /// Of these memory types the bits of those for which a feature has to be enabled, which the flags that choose don't speak of.
     fn unspoken(&self, types: &[MemoryType]) -> u32 {
         let by_feature = BY_FEATURE & !(self.required_flags.0 | self.preferred_flags.0);
         let is_unspoken = |it: &MemoryType| it.property_flags.0 & by_feature != 0;
-        (0..).zip(types).filter(|(_, it)| is_unspoken(it)).fold(0, |bits, (index, _): (u32, _)| bits | 1 << index)
+        bits_of(types, is_unspoken)
     }
 
     /// What is needed and asked for together of a device with these memory types, by flags or not. Where an alignment is no power of two there is
@@ -98,6 +105,11 @@ impl AllocationOptions<'_> {
             scheme => scheme,
         }
     }
+}
+
+/// The bits of those memory types of which something holds.
+fn bits_of(types: &[MemoryType], holds: impl Fn(&MemoryType) -> bool) -> u32 {
+    (0..).zip(types).filter(|(_, it)| holds(it)).fold(0, |bits, (index, _): (u32, _)| bits | 1 << index)
 }
 
 /// Structs that are chained to `VkMemoryAllocateInfo`: a priority (`VkMemoryPriorityAllocateInfoEXT`), handle types for export

@@ -3,6 +3,7 @@
 use super::abi::MemoryRequirements;
 use super::allocation::Allocation;
 use super::allocator::{AllocationCreateDesc, AllocationScheme, Allocator};
+use super::options::AllocationOptions;
 use crate::error::internal;
 use crate::plan::{self, plan, Memory, MemoryNeeds, Plan, Resource};
 use crate::{AllocationError, Kind, MemoryLocation, Result};
@@ -29,6 +30,15 @@ pub struct TransientCreateDesc<'a> {
     pub resources: &'a [TransientResource],
     /// Who reads and writes them.
     pub location: MemoryLocation,
+    /// What else is asked of their memory: flags in place of the location, for example.
+    pub options: AllocationOptions<'a>,
+}
+
+impl<'a> TransientCreateDesc<'a> {
+    /// Of resources that someone reads and writes, with nothing else asked of their memory.
+    pub fn new(name: &'a str, resources: &'a [TransientResource], location: MemoryLocation) -> Self {
+        TransientCreateDesc { name, resources, location, options: AllocationOptions::default() }
+    }
 }
 
 /// Where a resource is to be bound: `offset` bytes behind the offset of its set's allocation.
@@ -101,9 +111,10 @@ impl Transient {
 
 impl Allocator {
     /// Allocates memory that resources share which are never alive in one pass. In their order each one joins the first set with which it
-    /// shares a memory type that has what the location needs, or begins one; each set is planned ([`plan()`]), and has one allocation.
+    /// shares a memory type that has what the location or the flags need, or begins one; each set is planned ([`plan()`]), and has one allocation.
     ///
-    /// The errors, and then nothing is left: those of [`plan()`], then those of [`Allocator::allocate`].
+    /// The errors, and then nothing is left: `InvalidAllocationCreateDesc` for a location beside flags; those of [`plan()`], then those of
+    /// [`Allocator::allocate_with`].
     pub fn allocate_transient(&mut self, desc: &TransientCreateDesc<'_>) -> Result<Transient> {
         let mut transient = Transient { sets: Vec::new(), places: Vec::new() };
         let result = self.fill(desc, &mut transient);
@@ -152,16 +163,28 @@ impl Allocator {
         Ok(())
     }
 
-    /// What each resource needs, of the memory types that have what the location needs.
+    /// The memory types that have what the location, or in its place the flags need.
+    fn serving(&self, desc: &TransientCreateDesc<'_>) -> Result<u32> {
+        let serving = if desc.options.preference(desc.location)?.is_some() {
+            desc.options.serving(self.device().memory_types())
+        } else {
+            let bits = (0..u32::BITS).map(|index| 1 << index);
+            bits.filter(|&bit| self.best_type(bit, desc.location).is_some()).sum()
+        };
+        Ok(serving & desc.options.memory_type_bits.unwrap_or(u32::MAX) & self.memory_type_bits)
+    }
+
+    /// What each resource needs, of the memory types that serve.
     fn needs_of(&self, desc: &TransientCreateDesc<'_>) -> Result<Vec<MemoryNeeds>> {
-        let bits = (0..u32::BITS).map(|index| 1 << index);
-        let of_location: u32 = bits.filter(|&bit| self.best_type(bit, desc.location).is_some()).sum();
+        let serving = self.serving(desc)?;
         let mut needs = Vec::new();
         needs.try_reserve_exact(desc.resources.len())?;
-        needs.extend(desc.resources.iter().map(|it| MemoryNeeds {
-            memory_type_bits: it.requirements.memory_type_bits & self.memory_type_bits & of_location,
-            dedicated: false,
-        }));
+        needs.extend(
+            desc.resources.iter().map(|it| MemoryNeeds {
+                memory_type_bits: it.requirements.memory_type_bits & serving,
+                dedicated: false,
+            }),
+        );
         Ok(needs)
     }
 
@@ -183,13 +206,14 @@ impl Allocator {
         memory_type_bits: u32,
     ) -> Result<Allocation> {
         let Memory { size, alignment, kind } = plan.memory()?;
-        self.allocate(&AllocationCreateDesc {
+        let request = AllocationCreateDesc {
             name: desc.name,
             requirements: MemoryRequirements { size, alignment, memory_type_bits },
             location: desc.location,
             linear: kind == Kind::Linear,
             allocation_scheme: AllocationScheme::GpuAllocatorManaged,
-        })
+        };
+        self.allocate_with(&request, &desc.options)
     }
 }
 
