@@ -31,8 +31,8 @@ static void tell_bounds(const struct binding *b, pilhangko_budget *bounds) {
     }
 }
 
-/* The call `allocate`, before which these were the bounds. An allocation is called by its serial number; one that was refused by the next one's. One that flags chose the memory for
- * is one of its memory type alone; where it was refused it changed nothing, and isn't captured. */
+/* The call `allocate`, before which these were the bounds. An allocation is called by its serial number; one that was refused by the next one's.
+ * One that flags chose the memory for is one of its memory type alone; where it was refused it changed nothing, and isn't captured. */
 static void capture_call(struct binding *b, const struct wanted *wanted, const pilhangko_budget *bounds, pilhangko_status status, size_t type,
     const struct asked *asked) {
     pilhangko_allocator_request asks = wanted->asks;
@@ -116,7 +116,8 @@ static pilhangko_status memory_refused(
 static pilhangko_status mapping_refused(
     struct binding *b, struct asked *asked, VkResult driver, VkDeviceMemory memory, pilhangko_allocator_progress *progress) {
     bool has_code = driver != VK_SUCCESS;
-    b->common->over.functions->vkFreeMemory(b->common->over.device, memory, b->common->over.allocation_callbacks); /* unmaps it too, where a null address is a mapping to the driver */
+    /* unmaps it too, where a null address is a mapping to the driver */
+    b->common->over.functions->vkFreeMemory(b->common->over.device, memory, b->common->over.allocation_callbacks);
     note_refusal(asked, !has_code, driver, driver);
     return pilhangko_allocator_mapping_refused(&b->allocator, has_code, driver, progress);
 }
@@ -207,14 +208,6 @@ static void give_back(const struct binding *b, uint64_t memory, bool mapped) {
     b->common->over.functions->vkFreeMemory(b->common->over.device, (VkDeviceMemory)memory, b->common->over.allocation_callbacks);
 }
 
-static pilhangko_vulkan_result allocate(
-    struct binding *binding, const pilhangko_vulkan_request *request, pilhangko_vulkan_allocation *allocation) {
-    struct binding *b = enter(binding);
-    const pilhangko_vulkan_result result = allocate_alone(b, request, allocation);
-    leave(b);
-    return result;
-}
-
 static pilhangko_status free_alone(struct binding *b, const pilhangko_vulkan_allocation *allocation) {
     const struct live *it = find(b, allocation);
     pilhangko_allocator_memory back;
@@ -231,13 +224,6 @@ static pilhangko_status free_alone(struct binding *b, const pilhangko_vulkan_all
         share_again(b->common);
     }
     return PILHANGKO_OK;
-}
-
-static pilhangko_status free_allocation(struct binding *binding, const pilhangko_vulkan_allocation *allocation) {
-    struct binding *b = enter(binding);
-    const pilhangko_status status = free_alone(b, allocation);
-    leave(b);
-    return status;
 }
 
 pilhangko_status PILHANGKO_CALL pilhangko_vulkan_free_counted(
@@ -287,141 +273,25 @@ pilhangko_status PILHANGKO_CALL pilhangko_vulkan_propose_move(pilhangko_vulkan *
 
 pilhangko_vulkan_result PILHANGKO_CALL pilhangko_vulkan_allocate(
     pilhangko_vulkan *vulkan, const pilhangko_vulkan_request *request, pilhangko_vulkan_allocation *allocation) {
+    struct binding *b;
+    pilhangko_vulkan_result result;
     if (!vulkan || !request || !allocation) return undriven(PILHANGKO_NULL_POINTER);
     if (!vulkan->opaque) return undriven(PILHANGKO_NO_HANDLE);
-    return allocate(binding_of(vulkan), request, allocation);
+    b = enter(binding_of(vulkan));
+    result = allocate_alone(b, request, allocation);
+    leave(b);
+    return result;
 }
 
 pilhangko_status PILHANGKO_CALL pilhangko_vulkan_free(pilhangko_vulkan *vulkan, const pilhangko_vulkan_allocation *allocation) {
+    struct binding *b;
+    pilhangko_status status;
     if (!vulkan || !allocation) return PILHANGKO_NULL_POINTER;
     if (!vulkan->opaque) return PILHANGKO_NO_HANDLE;
-    return free_allocation(binding_of(vulkan), allocation);
-}
-
-void *PILHANGKO_CALL pilhangko_vulkan_mapped(const pilhangko_vulkan *vulkan, const pilhangko_vulkan_allocation *allocation) {
-    pilhangko_allocator_piece piece;
-    if (!vulkan || !allocation || !vulkan->opaque) return NULL;
-    if (!live_piece(binding_of(vulkan), allocation, &piece) || piece.address == 0) return NULL;
-    return (char *)(uintptr_t)piece.address + piece.piece.offset;
-}
-
-/* The range of a block that a flush of a piece's bytes is about: whole units of nonCoherentAtomSize, or up to the block's end. */
-static VkMappedMemoryRange whole_atoms(
-    const pilhangko_allocator_live_block *block, VkDeviceSize atom, VkDeviceSize first, VkDeviceSize size) {
-    const VkDeviceSize begin = first & ~(atom - 1), end = first + size;
-    VkMappedMemoryRange range;
-    memset(&range, 0, sizeof range);
-    range.sType = VK_STRUCTURE_TYPE_MAPPED_MEMORY_RANGE;
-    range.memory = (VkDeviceMemory)block->memory;
-    range.offset = begin;
-    range.size = end - begin;
-    /* up to the next unit, unless the block ends before it; the sum could pass 2^64 */
-    if (end % atom != 0) range.size += atom - end % atom < block->size - end ? atom - end % atom : block->size - end;
-    return range;
-}
-
-/* The live block that a piece lies in. */
-static pilhangko_status block_of(const struct binding *binding, const pilhangko_allocator_piece *piece, pilhangko_allocator_live_block *block) {
-    struct binding *b = enter(binding);
-    const pilhangko_status status = pilhangko_allocator_block(&b->allocator, piece->memory_type, piece->piece.slot, block);
+    b = enter(binding_of(vulkan));
+    status = free_alone(b, allocation);
     leave(b);
     return status;
-}
-
-/* Bytes of a live mapped allocation: the piece, and so many bytes from an offset in it on. */
-struct bytes {
-    pilhangko_allocator_piece live;
-    VkDeviceSize offset, size;
-};
-
-/* All from the offset on. */
-static pilhangko_status find_rest(
-    const struct binding *b, const pilhangko_vulkan_allocation *allocation, VkDeviceSize offset, struct bytes *bytes) {
-    if (!live_piece(b, allocation, &bytes->live)) return PILHANGKO_NOT_LIVE;
-    if (bytes->live.address == 0) return PILHANGKO_VULKAN_NOT_MAPPED;
-    if (offset > bytes->live.piece.size) return PILHANGKO_VULKAN_OUT_OF_RANGE;
-    bytes->offset = offset;
-    bytes->size = bytes->live.piece.size - offset;
-    return PILHANGKO_OK;
-}
-
-/* So many of them. */
-static pilhangko_status find_bytes(const struct binding *b, const pilhangko_vulkan_allocation *allocation, VkDeviceSize offset,
-    VkDeviceSize size, struct bytes *bytes) {
-    const pilhangko_status status = find_rest(b, allocation, offset, bytes);
-    if (status != PILHANGKO_OK) return status;
-    if (size > bytes->size) return PILHANGKO_VULKAN_OUT_OF_RANGE;
-    bytes->size = size;
-    return PILHANGKO_OK;
-}
-
-/* Where the host sees the first of them. */
-static char *address_of(const struct bytes *bytes) {
-    return (char *)(uintptr_t)bytes->live.address + bytes->live.piece.offset + bytes->offset;
-}
-
-/* Flushes or invalidates them, where their memory needs that. */
-static pilhangko_vulkan_result make_visible(const struct binding *b, const struct bytes *bytes, bool invalidates) {
-    pilhangko_allocator_live_block block;
-    pilhangko_status status;
-    VkMappedMemoryRange range;
-    VkResult driver;
-    if (bytes->size == 0 || (b->common->properties.memoryTypes[bytes->live.memory_type].propertyFlags & VK_MEMORY_PROPERTY_HOST_COHERENT_BIT))
-        return undriven(PILHANGKO_OK);
-    status = block_of(b, &bytes->live, &block);
-    if (status != PILHANGKO_OK) return undriven(status);
-    range = whole_atoms(&block, b->common->atom, bytes->live.piece.offset + bytes->offset, bytes->size);
-    driver = invalidates ? b->common->over.functions->vkInvalidateMappedMemoryRanges(b->common->over.device, 1, &range)
-                         : b->common->over.functions->vkFlushMappedMemoryRanges(b->common->over.device, 1, &range);
-    return driver == VK_SUCCESS ? undriven(PILHANGKO_OK) : result_of(PILHANGKO_VULKAN_CALL_FAILED, driver);
-}
-
-static pilhangko_vulkan_result flush(
-    const struct binding *b, const pilhangko_vulkan_allocation *allocation, VkDeviceSize offset, VkDeviceSize size, bool invalidates) {
-    struct bytes bytes;
-    const pilhangko_status status =
-        size == VK_WHOLE_SIZE ? find_rest(b, allocation, offset, &bytes) : find_bytes(b, allocation, offset, size, &bytes);
-    return status == PILHANGKO_OK ? make_visible(b, &bytes, invalidates) : undriven(status);
-}
-
-pilhangko_vulkan_result PILHANGKO_CALL pilhangko_vulkan_flush(
-    const pilhangko_vulkan *vulkan, const pilhangko_vulkan_allocation *allocation, VkDeviceSize offset, VkDeviceSize size) {
-    if (!vulkan || !allocation) return undriven(PILHANGKO_NULL_POINTER);
-    if (!vulkan->opaque) return undriven(PILHANGKO_NO_HANDLE);
-    return flush(binding_of(vulkan), allocation, offset, size, false);
-}
-
-pilhangko_vulkan_result PILHANGKO_CALL pilhangko_vulkan_invalidate(
-    const pilhangko_vulkan *vulkan, const pilhangko_vulkan_allocation *allocation, VkDeviceSize offset, VkDeviceSize size) {
-    if (!vulkan || !allocation) return undriven(PILHANGKO_NULL_POINTER);
-    if (!vulkan->opaque) return undriven(PILHANGKO_NO_HANDLE);
-    return flush(binding_of(vulkan), allocation, offset, size, true);
-}
-
-pilhangko_vulkan_result PILHANGKO_CALL pilhangko_vulkan_copy_to(const pilhangko_vulkan *vulkan, const void *from, size_t size,
-    const pilhangko_vulkan_allocation *allocation, VkDeviceSize offset) {
-    struct bytes bytes;
-    pilhangko_status status;
-    if (!vulkan || (!from && size) || !allocation) return undriven(PILHANGKO_NULL_POINTER);
-    if (!vulkan->opaque) return undriven(PILHANGKO_NO_HANDLE);
-    status = find_bytes(binding_of(vulkan), allocation, offset, size, &bytes);
-    if (status != PILHANGKO_OK) return undriven(status);
-    if (size > 0) memcpy(address_of(&bytes), from, size);
-    return make_visible(binding_of(vulkan), &bytes, false);
-}
-
-pilhangko_vulkan_result PILHANGKO_CALL pilhangko_vulkan_copy_from(const pilhangko_vulkan *vulkan,
-    const pilhangko_vulkan_allocation *allocation, VkDeviceSize offset, void *to, size_t size) {
-    struct bytes bytes;
-    pilhangko_status status;
-    pilhangko_vulkan_result result;
-    if (!vulkan || !allocation || (!to && size)) return undriven(PILHANGKO_NULL_POINTER);
-    if (!vulkan->opaque) return undriven(PILHANGKO_NO_HANDLE);
-    status = find_bytes(binding_of(vulkan), allocation, offset, size, &bytes);
-    if (status != PILHANGKO_OK) return undriven(status);
-    result = make_visible(binding_of(vulkan), &bytes, true);
-    if (result.status == PILHANGKO_OK && size > 0) memcpy(to, address_of(&bytes), size);
-    return result;
 }
 
 pilhangko_status PILHANGKO_CALL pilhangko_vulkan_rename(
@@ -526,263 +396,7 @@ pilhangko_status PILHANGKO_CALL pilhangko_vulkan_read_device(const pilhangko_vul
     return PILHANGKO_OK;
 }
 
-/* ---- buffers and images ---- */
-
-/* Allocates memory for a resource: its own where that is asked for or the driver requires it, and where the driver prefers it and there is
- * such memory. */
-static pilhangko_vulkan_result allocate_for(struct binding *b, const struct resource *r, pilhangko_kind kind,
-    const pilhangko_vulkan_placement *placement, pilhangko_vulkan_allocation *allocation) {
-    pilhangko_vulkan_request request = request_for(placement);
-    pilhangko_vulkan_result first, second;
-    VkMemoryDedicatedRequirements alone;
-    bool may_share;
-    alone = requirements_of(&b->common->over, r, &request.requirements);
-    may_share = !placement->dedicated && !placement->next && placement->location != PILHANGKO_VULKAN_LOCATION_TRANSIENT &&
-                !alone.requiresDedicatedAllocation;
-    request.kind = kind;
-    if (!may_share || alone.prefersDedicatedAllocation) request.scheme = is_image(r) ? PILHANGKO_SCHEME_IMAGE : PILHANGKO_SCHEME_BUFFER;
-    request.buffer = r->buffer;
-    request.image = r->image;
-    first = allocate(b, &request, allocation);
-    if (first.status == PILHANGKO_OK || first.status == PILHANGKO_HOST_OUT_OF_MEMORY) return first;
-    if (!may_share || request.scheme == PILHANGKO_SCHEME_MANAGED) return first;
-    request.scheme = PILHANGKO_SCHEME_MANAGED;
-    second = allocate(b, &request, allocation);
-    return result_of(second.status, second.driver != VK_SUCCESS ? second.driver : first.driver);
-}
-
-/* Gives a resource memory and binds it; destroys it where that fails. */
-static pilhangko_vulkan_result place(struct binding *b, const struct resource *r, pilhangko_kind kind,
-    const pilhangko_vulkan_placement *placement, pilhangko_vulkan_allocation *allocation) {
-    pilhangko_vulkan_allocation made;
-    pilhangko_vulkan_result result = allocate_for(b, r, kind, placement, &made);
-    if (result.status != PILHANGKO_OK) {
-        destroy_resource(&b->common->over, r);
-        return result;
-    }
-    result = bind_resource(&b->common->over, r, made.memory, made.offset);
-    if (result.status != PILHANGKO_OK) {
-        destroy_resource(&b->common->over, r);
-        free_allocation(b, &made);
-        return result;
-    }
-    *allocation = made;
-    return result;
-}
-
-pilhangko_vulkan_result PILHANGKO_CALL pilhangko_vulkan_create_buffer(pilhangko_vulkan *vulkan, const VkBufferCreateInfo *info,
-    const pilhangko_vulkan_placement *placement, VkBuffer *buffer, pilhangko_vulkan_allocation *allocation) {
-    struct resource made = {VK_NULL_HANDLE, VK_NULL_HANDLE};
-    struct binding *b;
-    pilhangko_vulkan_result result;
-    if (!vulkan || !info || !placement || !buffer || !allocation) return undriven(PILHANGKO_NULL_POINTER);
-    b = binding_of(vulkan);
-    if (!b) return undriven(PILHANGKO_NO_HANDLE);
-    if (!is_bindable_buffer(info)) return undriven(PILHANGKO_INVALID);
-    result = make_buffer(&b->common->over, info, &made);
-    if (result.status != PILHANGKO_OK) return result;
-    result = place(b, &made, PILHANGKO_KIND_LINEAR, placement, allocation);
-    if (result.status == PILHANGKO_OK) *buffer = made.buffer;
-    return result;
-}
-
-pilhangko_vulkan_result PILHANGKO_CALL pilhangko_vulkan_create_image(pilhangko_vulkan *vulkan, const VkImageCreateInfo *info,
-    const pilhangko_vulkan_placement *placement, VkImage *image, pilhangko_vulkan_allocation *allocation) {
-    struct resource made = {VK_NULL_HANDLE, VK_NULL_HANDLE};
-    struct binding *b;
-    pilhangko_vulkan_result result;
-    if (!vulkan || !info || !placement || !image || !allocation) return undriven(PILHANGKO_NULL_POINTER);
-    b = binding_of(vulkan);
-    if (!b) return undriven(PILHANGKO_NO_HANDLE);
-    if (!is_bindable_image(info)) return undriven(PILHANGKO_INVALID);
-    result = make_image(&b->common->over, info, &made);
-    if (result.status != PILHANGKO_OK) return result;
-    result = place(b, &made, kind_of_image(info), placement, allocation);
-    if (result.status == PILHANGKO_OK) *image = made.image;
-    return result;
-}
-
-/* The resource goes before its memory, as the driver wants it. */
-static pilhangko_status destroy_placed(struct binding *b, const struct resource *r, const pilhangko_vulkan_allocation *allocation) {
-    pilhangko_allocator_piece piece;
-    if (!live_piece(b, allocation, &piece)) return PILHANGKO_NOT_LIVE;
-    destroy_resource(&b->common->over, r);
-    return free_allocation(b, allocation);
-}
-
-pilhangko_status PILHANGKO_CALL pilhangko_vulkan_destroy_buffer(
-    pilhangko_vulkan *vulkan, VkBuffer buffer, const pilhangko_vulkan_allocation *allocation) {
-    struct resource gone = {buffer, VK_NULL_HANDLE};
-    if (!vulkan || buffer == VK_NULL_HANDLE || !allocation) return PILHANGKO_NULL_POINTER;
-    if (!vulkan->opaque) return PILHANGKO_NO_HANDLE;
-    return destroy_placed(binding_of(vulkan), &gone, allocation);
-}
-
-pilhangko_status PILHANGKO_CALL pilhangko_vulkan_destroy_image(
-    pilhangko_vulkan *vulkan, VkImage image, const pilhangko_vulkan_allocation *allocation) {
-    struct resource gone = {VK_NULL_HANDLE, image};
-    if (!vulkan || image == VK_NULL_HANDLE || !allocation) return PILHANGKO_NULL_POINTER;
-    if (!vulkan->opaque) return PILHANGKO_NO_HANDLE;
-    return destroy_placed(binding_of(vulkan), &gone, allocation);
-}
-
-/* ---- budgets ---- */
-
-/* What the driver tells of its heaps now. */
-static void read_budgets(const struct binding *b, VkPhysicalDeviceMemoryBudgetPropertiesEXT *budgets) {
-    VkPhysicalDeviceMemoryProperties2 properties;
-    memset(budgets, 0, sizeof *budgets);
-    budgets->sType = VK_STRUCTURE_TYPE_PHYSICAL_DEVICE_MEMORY_BUDGET_PROPERTIES_EXT;
-    memset(&properties, 0, sizeof properties);
-    properties.sType = VK_STRUCTURE_TYPE_PHYSICAL_DEVICE_MEMORY_PROPERTIES_2;
-    properties.pNext = budgets;
-    b->common->over.functions->vkGetPhysicalDeviceMemoryProperties2(b->common->over.physical_device, &properties);
-}
-
-pilhangko_status PILHANGKO_CALL pilhangko_vulkan_read_heap(const pilhangko_vulkan *vulkan, uint32_t heap, pilhangko_vulkan_heap *read) {
-    VkPhysicalDeviceMemoryBudgetPropertiesEXT budgets;
-    const struct binding *b;
-    if (!vulkan || !read) return PILHANGKO_NULL_POINTER;
-    b = binding_of(vulkan);
-    if (!b) return PILHANGKO_NO_HANDLE;
-    if (heap >= b->common->properties.memoryHeapCount) return PILHANGKO_VULKAN_NO_SUCH_HEAP;
-    memset(read, 0, sizeof *read);
-    read->size = b->common->properties.memoryHeaps[heap].size;
-    read->flags = b->common->properties.memoryHeaps[heap].flags;
-    (void)enter(b);
-    read->held = held_by_all(b->common, heap);
-    leave(binding_of(vulkan));
-    read->has_budget = b->common->memory_budget;
-    if (!b->common->memory_budget) return PILHANGKO_OK;
-    read_budgets(b, &budgets);
-    read->usage = budgets.heapUsage[heap];
-    read->budget = budgets.heapBudget[heap];
-    return PILHANGKO_OK;
-}
-
-/* Limits each heap to what is held there and what the driver still gives, between enter and leave: no block comes or goes meanwhile. */
-static void follow_driver(struct common *c, const VkPhysicalDeviceMemoryBudgetPropertiesEXT *budgets) {
-    for (uint32_t heap = 0; heap < c->properties.memoryHeapCount; heap++) {
-        const VkDeviceSize left = left_of(budgets->heapBudget[heap], budgets->heapUsage[heap]), held = held_by_all(c, heap);
-        c->limits[heap].exists = true;
-        c->limits[heap].bytes = left <= UINT64_MAX - held ? held + left : UINT64_MAX;
-    }
-    share_bounds(c);
-}
-
-pilhangko_status PILHANGKO_CALL pilhangko_vulkan_update_budgets(pilhangko_vulkan *vulkan) {
-    VkPhysicalDeviceMemoryBudgetPropertiesEXT budgets;
-    struct binding *b;
-    if (!vulkan) return PILHANGKO_NULL_POINTER;
-    if (!vulkan->opaque) return PILHANGKO_NO_HANDLE;
-    if (!binding_of(vulkan)->common->memory_budget) return PILHANGKO_VULKAN_NO_BUDGETS;
-    b = enter(binding_of(vulkan));
-    read_budgets(b, &budgets);
-    follow_driver(b->common, &budgets);
-    leave(b);
-    return PILHANGKO_OK;
-}
-
-pilhangko_status PILHANGKO_CALL pilhangko_vulkan_set_budget(
-    pilhangko_vulkan *vulkan, uint32_t memory_type, bool has_budget, VkDeviceSize bytes) {
-    struct binding *b;
-    pilhangko_status status;
-    if (!vulkan) return PILHANGKO_NULL_POINTER;
-    if (!vulkan->opaque) return PILHANGKO_NO_HANDLE;
-    b = enter(binding_of(vulkan));
-    status = pilhangko_allocator_set_budget(&b->allocator, memory_type, has_budget, bytes);
-    leave(b);
-    return status;
-}
-
-pilhangko_status PILHANGKO_CALL pilhangko_vulkan_budget(const pilhangko_vulkan *vulkan, uint32_t memory_type, pilhangko_budget *budget) {
-    struct binding *b;
-    pilhangko_status status;
-    if (!vulkan || !budget) return PILHANGKO_NULL_POINTER;
-    if (!vulkan->opaque) return PILHANGKO_NO_HANDLE;
-    b = enter(binding_of(vulkan));
-    status = pilhangko_allocator_budget(&b->allocator, memory_type, budget);
-    leave(b);
-    return status;
-}
-
-pilhangko_status PILHANGKO_CALL pilhangko_vulkan_set_heap_limit(
-    pilhangko_vulkan *vulkan, uint32_t heap, bool has_limit, VkDeviceSize bytes) {
-    struct binding *b;
-    pilhangko_status status;
-    if (!vulkan) return PILHANGKO_NULL_POINTER;
-    if (!vulkan->opaque) return PILHANGKO_NO_HANDLE;
-    b = enter(binding_of(vulkan));
-    status = pilhangko_allocator_set_heap_limit(&b->allocator, heap, has_limit, bytes);
-    if (status == PILHANGKO_OK) {
-        b->common->limits[heap].exists = has_limit;
-        b->common->limits[heap].bytes = has_limit ? bytes : 0;
-        share_bounds(b->common);
-    }
-    leave(b);
-    if (status == PILHANGKO_NO_SUCH_HEAP) return PILHANGKO_VULKAN_NO_SUCH_HEAP;
-    return status;
-}
-
-pilhangko_status PILHANGKO_CALL pilhangko_vulkan_heap_limit(const pilhangko_vulkan *vulkan, uint32_t heap, pilhangko_budget *limit) {
-    struct binding *b;
-    if (!vulkan || !limit) return PILHANGKO_NULL_POINTER;
-    if (!vulkan->opaque) return PILHANGKO_NO_HANDLE;
-    b = enter(binding_of(vulkan));
-    memset(limit, 0, sizeof *limit);
-    if (heap < b->common->properties.memoryHeapCount) *limit = b->common->limits[heap];
-    leave(b);
-    return PILHANGKO_OK;
-}
-
 /* ---- create and destroy ---- */
-
-static bool has_functions(const pilhangko_vulkan_functions *f) {
-    return f->vkGetPhysicalDeviceProperties && f->vkGetPhysicalDeviceMemoryProperties && f->vkAllocateMemory && f->vkFreeMemory &&
-           f->vkMapMemory && f->vkUnmapMemory && f->vkFlushMappedMemoryRanges && f->vkInvalidateMappedMemoryRanges && f->vkCreateBuffer &&
-           f->vkDestroyBuffer && f->vkGetBufferMemoryRequirements && f->vkBindBufferMemory && f->vkCreateImage && f->vkDestroyImage &&
-           f->vkGetImageMemoryRequirements && f->vkBindImageMemory;
-}
-
-#define LOAD(get, of, name) loaded.name = (PFN_##name)get(of, #name)
-
-pilhangko_status PILHANGKO_CALL pilhangko_vulkan_load(pilhangko_vulkan_functions *functions, VkInstance instance, VkDevice device,
-    uint32_t api_version, PFN_vkGetInstanceProcAddr get_instance_proc_addr, PFN_vkGetDeviceProcAddr get_device_proc_addr) {
-    pilhangko_vulkan_functions loaded;
-    PFN_vkGetDeviceProcAddr get = get_device_proc_addr;
-    const bool has_1_1 = api_version >= VK_API_VERSION_1_1;
-    if (!functions || !instance || !device || !get_instance_proc_addr) return PILHANGKO_NULL_POINTER;
-    if (!get) get = (PFN_vkGetDeviceProcAddr)get_instance_proc_addr(instance, "vkGetDeviceProcAddr");
-    if (!get) return PILHANGKO_VULKAN_NO_FUNCTION;
-    memset(&loaded, 0, sizeof loaded);
-    LOAD(get_instance_proc_addr, instance, vkGetPhysicalDeviceProperties);
-    LOAD(get_instance_proc_addr, instance, vkGetPhysicalDeviceMemoryProperties);
-    LOAD(get, device, vkAllocateMemory);
-    LOAD(get, device, vkFreeMemory);
-    LOAD(get, device, vkMapMemory);
-    LOAD(get, device, vkUnmapMemory);
-    LOAD(get, device, vkFlushMappedMemoryRanges);
-    LOAD(get, device, vkInvalidateMappedMemoryRanges);
-    LOAD(get, device, vkCreateBuffer);
-    LOAD(get, device, vkDestroyBuffer);
-    LOAD(get, device, vkGetBufferMemoryRequirements);
-    LOAD(get, device, vkBindBufferMemory);
-    LOAD(get, device, vkCreateImage);
-    LOAD(get, device, vkDestroyImage);
-    LOAD(get, device, vkGetImageMemoryRequirements);
-    LOAD(get, device, vkBindImageMemory);
-    if (has_1_1) {
-        LOAD(get, device, vkGetBufferMemoryRequirements2);
-        LOAD(get, device, vkGetImageMemoryRequirements2);
-        LOAD(get_instance_proc_addr, instance, vkGetPhysicalDeviceMemoryProperties2);
-    } else {
-        loaded.vkGetPhysicalDeviceMemoryProperties2 =
-            (PFN_vkGetPhysicalDeviceMemoryProperties2)get_instance_proc_addr(instance, "vkGetPhysicalDeviceMemoryProperties2KHR");
-    }
-    if (!has_functions(&loaded)) return PILHANGKO_VULKAN_NO_FUNCTION;
-    *functions = loaded;
-    return PILHANGKO_OK;
-}
 
 /* What a binding and a pool are both made with. */
 struct block_settings {

@@ -16,6 +16,14 @@ static inline pilhangko_vulkan_result undriven(pilhangko_status status) {
     return result_of(status, VK_SUCCESS);
 }
 
+/* Whether a table has all functions that may not be NULL. */
+static inline bool has_functions(const pilhangko_vulkan_functions *f) {
+    return f->vkGetPhysicalDeviceProperties && f->vkGetPhysicalDeviceMemoryProperties && f->vkAllocateMemory && f->vkFreeMemory &&
+           f->vkMapMemory && f->vkUnmapMemory && f->vkFlushMappedMemoryRanges && f->vkInvalidateMappedMemoryRanges && f->vkCreateBuffer &&
+           f->vkDestroyBuffer && f->vkGetBufferMemoryRequirements && f->vkBindBufferMemory && f->vkCreateImage && f->vkDestroyImage &&
+           f->vkGetImageMemoryRequirements && f->vkBindImageMemory;
+}
+
 #define NAMED(rest) pilhangko_vulkan##rest
 #define BYTES_OF(request) ((request)->requirements.size)
 #include "pilhangko_moves.h"

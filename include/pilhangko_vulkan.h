@@ -1,9 +1,9 @@
 /* Pilhangko's Vulkan binding: memory, buffers and images of a VkDevice, placed by a pilhangko_allocator.
  *
  * The binding asks the driver for blocks and maps those that the host can see; the allocator keeps them, and says where each piece lies
- * (pilhangko.h). Compile c/pilhangko_vulkan.c and c/pilhangko_heap.c with the program (and c/pilhangko_vulkan_ring.c where it has rings),
- * and link libgpu_c.a. It needs Vulkan's headers of version 1.2 or later, and runs on drivers from Vulkan 1.0 on. It calls the driver
- * through a table of functions, so it links no loader; its own host memory is malloc's.
+ * (pilhangko.h). Compile c/pilhangko_vulkan*.c and c/pilhangko_heap.c with the program, and link libgpu_c.a. It needs Vulkan's headers of
+ * version 1.2 or later, and runs on drivers from Vulkan 1.0 on. It calls the driver through a table of functions, so it links no loader; its
+ * own host memory is malloc's.
  *
  * Handles. A pilhangko_vulkan is one pointer that begins zeroed, as in `pilhangko_vulkan vulkan = {0};`, and keeps the rules of the handles
  * of pilhangko.h: it is never copied. But any threads may call it at once: it has a lock, which externally_synchronized leaves out; create
@@ -200,7 +200,7 @@ typedef struct pilhangko_vulkan_request {
 } pilhangko_vulkan_request;
 
 /* An allocation: bind at offset of memory. The calls read the last three fields alone. One that was freed is refused for good
- * (PILHANGKO_NOT_LIVE), and so is one of another binding, also of one that was destroyed. (Bindings of copies of pilhangko_vulkan.c in
+ * (PILHANGKO_NOT_LIVE), and so is one of another binding, also of one that was destroyed. (Bindings of copies of these sources in
  * different shared libraries are numbered apart: keep their allocations apart.) */
 typedef struct pilhangko_vulkan_allocation {
     VkDeviceMemory memory;
@@ -262,7 +262,7 @@ PILHANGKO_NODISCARD PILHANGKO_API pilhangko_status PILHANGKO_CALL pilhangko_vulk
 
 /* Moves a mapped allocation at once: where there is a second place, its bytes are copied there (those that the device wrote are invalidated
  * before, and all are flushed behind), the first place is freed, and *allocation is the second. *moved says whether. The device doesn't use
- * the bytes meanwhile, and no other thread does anything with the allocation. (c/pilhangko_vulkan_moves.c)
+ * the bytes meanwhile, and no other thread does anything with the allocation.
  * NULL_POINTER. NO_HANDLE. NOT_LIVE. NOT_MAPPED. The causes of pilhangko_vulkan_propose_move. CALL_FAILED: the driver refused to invalidate or to
  * flush; the allocation stays where it was. */
 PILHANGKO_NODISCARD PILHANGKO_API pilhangko_vulkan_result PILHANGKO_CALL pilhangko_vulkan_move_mapped(pilhangko_vulkan *vulkan,
@@ -283,7 +283,7 @@ typedef struct pilhangko_vulkan_move {
 /* Proposes the moves of a frame: goes over the table, allocations in the lowest slot first, so that low blocks empty, and proposes moves that
  * sum up to so many bytes at most, and that moves has room for. *proposed says how many; they are as those of pilhangko_vulkan_propose_move,
  * and each ends by a free. An allocation with an open move isn't put into the table again (a pilhangko_vulkan_defragmentation sees to that). Where a
- * proposal fails, those before it are abandoned, and what moves holds doesn't count. (c/pilhangko_vulkan_moves.c)
+ * proposal fails, those before it are abandoned, and what moves holds doesn't count.
  * NULL_POINTER. NO_HANDLE. The causes of pilhangko_vulkan_propose_move. */
 PILHANGKO_NODISCARD PILHANGKO_API pilhangko_status PILHANGKO_CALL pilhangko_vulkan_propose_moves(pilhangko_vulkan *vulkan,
     const pilhangko_vulkan_movable *movables, size_t count, VkDeviceSize bytes, pilhangko_vulkan_move *moves, size_t room, size_t *proposed);
@@ -291,7 +291,7 @@ PILHANGKO_NODISCARD PILHANGKO_API pilhangko_status PILHANGKO_CALL pilhangko_vulk
 /* Moves that stay open over frames, and what came of those that were finished. It begins zeroed, as in `pilhangko_vulkan_defragmentation it = {0};`,
  * and its fields are only read. While moves are open it is one binding's, and holds host memory: end it then. It has no lock: it is given to one
  * call at a time, on any thread. Other threads may call the binding meanwhile, whose own lock holds, but do nothing with the allocations of open
- * moves. (c/pilhangko_vulkan_defragment.c) */
+ * moves. */
 typedef struct pilhangko_vulkan_defragmentation {
     size_t open;                   /* moves that are neither finished nor abandoned */
     bool done;                     /* whether the last propose found no move while none was open */
@@ -401,7 +401,7 @@ PILHANGKO_NODISCARD PILHANGKO_API pilhangko_status PILHANGKO_CALL pilhangko_vulk
 /* Makes a buffer or an image and binds it at an offset of a live allocation, whose bytes it has in common with all else that is bound there:
  * only one of them holds what it should at a time, and barriers go between their uses. The allocation is the caller's still; the buffer or the
  * image is destroyed before it, by vkDestroyBuffer or vkDestroyImage. An allocation for buffers and images both has kind NON_LINEAR, and size
- * and alignment are multiples of bufferImageGranularity (pilhangko_plan_memory). (c/pilhangko_vulkan_alias.c)
+ * and alignment are multiples of bufferImageGranularity (pilhangko_plan_memory).
  * NULL_POINTER. NO_HANDLE. NOT_LIVE. INVALID: a sparse or disjoint one. CALL_FAILED: vkCreate... And by what the driver needs for it: INVALID:
  * memory of its own, another memory type, or another alignment of its place in the memory. OUT_OF_RANGE: it runs past the allocation's end.
  * CALL_FAILED: vkBind... What was made is undone where something fails. */
@@ -464,7 +464,7 @@ PILHANGKO_NODISCARD PILHANGKO_API pilhangko_status PILHANGKO_CALL pilhangko_vulk
 PILHANGKO_NODISCARD PILHANGKO_API pilhangko_status PILHANGKO_CALL pilhangko_vulkan_ring_destroy(
     pilhangko_vulkan *vulkan, pilhangko_vulkan_ring *ring);
 
-/* ---- Transient resources: buffers and images of a frame that share memory (c/pilhangko_vulkan_transient.c) ---- */
+/* ---- Transient resources: buffers and images of a frame that share memory ---- */
 
 /* A buffer or an image, and the passes in which it is alive, both included. */
 typedef struct pilhangko_vulkan_transient_resource {

@@ -1,5 +1,5 @@
 /* The numbers of bindings that eight threads make at once: each comes once. In C and in C++, which count by different means. */
-#include "../c/pilhangko_vulkan.c"
+#include "../c/pilhangko_shared.h"
 #include "test.h"
 #include <pthread.h>
 

@@ -71,7 +71,8 @@ static inline void replies_no_place(struct replies *r) {
     replies_line(r, "none");
 }
 
-/* INVALID requests aren't captured, and of those by flags only what they lead to; the two statuses that have the number 6 in a trace are told apart here. */
+/* INVALID requests aren't captured, and of those by flags only what they lead to; the two statuses that have the number 6 in a trace are told apart
+ * here. */
 static inline void replies_refusal(struct replies *r, pilhangko_status status) {
     char line[32];
     if (status == PILHANGKO_INVALID || r->account->by_flags) return;

@@ -1,7 +1,7 @@
 /* What moves give back: of 2,000 pieces in blocks of 16 MB two of three are freed, in random order, and those that are left move, at most 16 MB
  * a round, until none is proposed. Prints the blocks before and behind, what was moved, and the processor time a move, with the free that ends
  * it; no byte is copied. Over the first Vulkan device.
- *     cc -O2 -Iinclude -Iexamples -o measure_moves tools/measure_moves.c c/pilhangko_vulkan.c c/pilhangko_vulkan_moves.c c/pilhangko_heap.c \
+ *     cc -O2 -Iinclude -Iexamples -o measure_moves tools/measure_moves.c c/pilhangko_vulkan*.c c/pilhangko_heap.c \
  *         crates/gpu_c/out/libgpu_c.a -lvulkan && ./measure_moves
  * With -DVMA, VMA's header and its implementation (an object file) the same pieces are moved by its balanced algorithm. */
 #define _POSIX_C_SOURCE 200809L
