@@ -34,6 +34,46 @@ pub trait Movable: fmt::Debug + Sized {
     fn capacity(allocator: &Self::Allocator) -> u64;
 }
 
+/// Makes the allocation of an API one that its allocator can move.
+macro_rules! movable {
+    ($allocation:ty, $allocator:ty, $desc:ident) => {
+        impl $crate::defragmentation::Movable for $allocation {
+            type Allocator = $allocator;
+
+            type Desc<'a> = $desc<'a>;
+
+            fn name(&self) -> $crate::defragmentation::MoveKey {
+                self.key()
+            }
+
+            fn bytes(&self) -> u64 {
+                self.size()
+            }
+
+            fn slot(&self) -> usize {
+                self.memory_block_index()
+            }
+
+            fn second_place(&self, allocator: &mut $allocator, desc: &$desc<'_>) -> $crate::Result<Option<Self>> {
+                allocator.propose_move(self, desc)
+            }
+
+            fn check_live(&self, allocator: &$allocator) -> $crate::Result<()> {
+                allocator.live(self).map(|_| ())
+            }
+
+            fn free(self, allocator: &mut $allocator) -> $crate::Result<()> {
+                Ok(allocator.free(self)?)
+            }
+
+            fn capacity(allocator: &$allocator) -> u64 {
+                allocator.capacity()
+            }
+        }
+    };
+}
+pub(crate) use movable;
+
 /// What names an open move. It is the name of the second place, which no other allocation has, nor had.
 #[derive(Clone, Copy, Debug, PartialEq, Eq, PartialOrd, Ord, Hash)]
 pub struct MoveKey {

@@ -2,6 +2,7 @@
 
 use crate::vulkan::Allocation;
 use crate::{d3d12, raw};
+use std::alloc::{handle_alloc_error, Layout};
 use std::collections::TryReserveError;
 use std::error::Error;
 use std::fmt;
@@ -173,6 +174,11 @@ pub(crate) fn check(status: u32) -> Result<()> {
 #[track_caller]
 pub(crate) fn check_unrefused(status: u32) {
     assert_eq!(status, raw::OK, "libgpu_c.a refused a call that it never refuses");
+}
+
+/// Ends the program as Rust's lists do where the host has no memory for them.
+pub(crate) fn out_of_host_memory() -> ! {
+    handle_alloc_error(Layout::new::<crate::AllocatorReport>())
 }
 
 /// A copy of a text, or `HostOutOfMemory`.

@@ -22,6 +22,7 @@ pub mod d3d12;
 mod defragmentation;
 mod error;
 mod heap;
+mod log;
 pub mod memory_type;
 mod pieces;
 pub mod plan;
@@ -32,6 +33,7 @@ mod report;
 pub mod ring;
 mod settings;
 mod sizes;
+mod statistics;
 pub mod virtual_block;
 pub mod vulkan;
 

@@ -81,6 +81,20 @@ impl Handle {
 // SAFETY: the archive's handles may go from thread to thread (the header: "It is given to one call at a time, on any thread").
 unsafe impl Send for Handle {}
 
+/// A text of the library's, of which a call copies as much as there is room for and tells the length.
+pub(crate) fn copied_text(copy: impl Fn(*mut u8, usize, &mut usize) -> u32) -> crate::Result<String> {
+    let mut text = Vec::new();
+    loop {
+        let (room, mut length) = (text.len(), 0);
+        crate::error::check(copy(text.as_mut_ptr(), room, &mut length))?;
+        if length <= room {
+            return Ok(String::from_utf8(text).expect("the text is UTF-8"));
+        }
+        text.try_reserve_exact(length)?;
+        text.resize(length, 0);
+    }
+}
+
 #[repr(C)]
 #[derive(Debug)]
 pub(crate) struct VirtualRequest {

@@ -1,5 +1,6 @@
 //! Reports of what an allocator holds.
 
+use crate::{NamedPiece, Result};
 use std::cmp::Reverse;
 use std::fmt;
 use std::ops::Range;
@@ -22,6 +23,32 @@ pub struct MemoryBlockReport {
     pub size: u64,
     /// Which of the report's `allocations` lie in it.
     pub allocations: Range<usize>,
+}
+
+/// What these blocks hold: of each its size and its pieces. `capacity` is the sum of all sizes in bytes.
+pub(crate) fn report_of(
+    capacity: u64,
+    blocks: impl Iterator<Item = (u64, Result<Vec<NamedPiece>>)>,
+) -> Result<AllocatorReport> {
+    let mut report = AllocatorReport {
+        allocations: Vec::new(),
+        blocks: Vec::new(),
+        total_allocated_bytes: 0,
+        total_capacity_bytes: capacity,
+    };
+    for (size, pieces) in blocks {
+        let (pieces, start) = (pieces?, report.allocations.len());
+        report.total_allocated_bytes += pieces.iter().map(|it| it.view.end - it.view.start).sum::<u64>();
+        report.allocations.try_reserve(pieces.len())?;
+        report.allocations.extend(pieces.into_iter().map(row));
+        report.blocks.try_reserve(1)?;
+        report.blocks.push(MemoryBlockReport { size, allocations: start..report.allocations.len() });
+    }
+    Ok(report)
+}
+
+fn row(piece: NamedPiece) -> AllocationReport {
+    AllocationReport { offset: piece.view.offset, size: piece.view.size(), name: piece.name }
 }
 
 /// What an allocator holds: pieces and blocks by memory type, slot and offset. `{:?}` prints the sums and the pieces, the largest first;

@@ -1,6 +1,7 @@
 //! Pieces of heaps and resources, as their owner holds them.
 
 use super::Interface;
+use crate::defragmentation::MoveKey;
 use crate::raw::{HeapsCommitted, HeapsPiece};
 use crate::MemoryLocation;
 use std::ffi::c_void;
@@ -32,6 +33,11 @@ impl Allocation {
     /// Whoever uses it places resources at `offset` that take no more than `size` bytes, and releases each before the allocation is freed.
     pub unsafe fn heap(&self) -> *mut c_void {
         self.heap.as_raw()
+    }
+
+    /// What names it.
+    pub(super) fn key(&self) -> MoveKey {
+        MoveKey { owner: self.owner, number: self.number }
     }
 
     /// Where it begins in its heap, in bytes; a multiple of the alignment that was asked for.

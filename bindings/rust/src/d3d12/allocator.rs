@@ -5,14 +5,17 @@ use super::allocation::{Allocation, Memory, Resource};
 use super::device::{heap_size, ID3D12DeviceVersion, Place, Wanted};
 use super::machine::{choose_call, heap_of, Machine, Progress};
 use super::Interface;
-use crate::error::{check, copied};
+use crate::error::{check, copied, out_of_host_memory};
+use crate::log::Log;
 use crate::memory_type::BlockStatistics;
 use crate::pieces::Visited;
 use crate::raw::{HeapsPiece, NOT_LIVE};
-use crate::vulkan::{next_owner, out_of_host_memory, TypeStatistics};
+use crate::report::report_of;
+use crate::statistics::TypeStatistics;
+use crate::vulkan::next_owner;
 use crate::{
-    AllocationError, AllocationReport, AllocationSizes, AllocatorDebugSettings, AllocatorReport, Level, Logger,
-    MemoryBlockReport, MemoryLocation, NamedPiece, Result,
+    AllocationError, AllocationSizes, AllocatorDebugSettings, AllocatorReport, Level, Logger, MemoryLocation,
+    NamedPiece, Result,
 };
 use std::fmt;
 
@@ -143,8 +146,7 @@ pub struct Allocator {
     owner: u64,
     /// The number of the allocation that was made last.
     last_number: u64,
-    debug_settings: AllocatorDebugSettings,
-    logger: Option<Logger>,
+    log: Log,
 }
 
 impl Allocator {
@@ -158,8 +160,7 @@ impl Allocator {
             device: desc.device.clone(),
             owner: next_owner(),
             last_number: 0,
-            debug_settings: desc.debug_settings,
-            logger: desc.logger.clone(),
+            log: Log::new(desc.debug_settings, desc.logger.as_ref()),
         })
     }
 
@@ -175,10 +176,7 @@ impl Allocator {
     /// `E_OUTOFMEMORY`, `Internal` for another code, or null.
     pub fn allocate(&mut self, desc: &AllocationCreateDesc<'_>) -> Result<Allocation> {
         let AllocationCreateDesc { name, size, alignment, .. } = *desc;
-        self.log(
-            self.debug_settings.log_allocations,
-            format_args!("Allocating `{name}` of {size} bytes with an alignment of {alignment}."),
-        );
+        self.log.requested(name, size, alignment);
         let own = copied(name)?;
         let piece = match self.machine.begin(desc)? {
             Progress::Piece(piece) => piece,
@@ -204,7 +202,7 @@ impl Allocator {
     pub fn free(&mut self, allocation: Allocation) -> Result<(), (AllocationError, Allocation)> {
         let result = self.release(&allocation);
         // behind the work, so that nothing is lost where the logger panics
-        self.log(self.debug_settings.log_frees, format_args!("Freeing `{}`.", allocation.name));
+        self.log.freed(&allocation.name);
         result.map_err(|error| (error, allocation))
     }
 
@@ -384,27 +382,8 @@ impl Allocator {
     /// What is held: pieces and heaps by memory type, slot and offset. Where the host has no memory for it, the program ends, as it does
     /// wherever Rust's lists have none; `report_json` and `named_pieces` return an error instead.
     pub fn generate_report(&self) -> AllocatorReport {
-        self.report().unwrap_or_else(|_| out_of_host_memory())
-    }
-
-    fn report(&self) -> Result<AllocatorReport> {
-        let mut report = AllocatorReport {
-            allocations: Vec::new(),
-            blocks: Vec::new(),
-            total_allocated_bytes: 0,
-            total_capacity_bytes: self.capacity(),
-        };
-        for (heap, block) in self.machine.blocks() {
-            let (pieces, start) = (block.named()?, report.allocations.len());
-            report.total_allocated_bytes += pieces.iter().map(|it| it.view.end - it.view.start).sum::<u64>();
-            report.allocations.try_reserve(pieces.len())?;
-            report.allocations.extend(pieces.into_iter().map(row));
-            report.blocks.try_reserve(1)?;
-            report
-                .blocks
-                .push(MemoryBlockReport { size: size_of_heap(heap), allocations: start..report.allocations.len() });
-        }
-        Ok(report)
+        let named = self.machine.blocks().map(|(heap, block)| (size_of_heap(heap), block.named()));
+        report_of(self.capacity(), named).unwrap_or_else(|_| out_of_host_memory())
     }
 
     /// The report as JSON (`gpu_report.allocator` of docs/REPORT.md).
@@ -417,14 +396,15 @@ impl Allocator {
     /// Logs each live allocation as a leak, by memory type, slot and offset, where there is a logger. Where the host has no memory for the
     /// next ones, the last line says so.
     pub fn report_memory_leaks(&self, log_level: Level) {
-        let Some(logger) = &self.logger else { return };
-        for leak in (0..).map(|index| self.machine.leak(index)) {
-            match leak {
-                Ok(text) if text.is_empty() => return,
-                Ok(text) => logger.log(log_level, text.trim_end()),
-                Err(_) => return logger.log(log_level, "the host refused memory for further leaks"),
+        self.log.leaks(log_level, |log| {
+            for index in 0.. {
+                match self.machine.leak(index)? {
+                    text if text.is_empty() => break,
+                    text => log(text.trim_end()),
+                }
             }
-        }
+            Ok::<(), AllocationError>(())
+        });
     }
 
     /// Whether an allocation is this allocator's and live.
@@ -443,12 +423,6 @@ impl Allocator {
             check(NOT_LIVE)
         }
     }
-
-    fn log(&self, is_wanted: bool, line: fmt::Arguments<'_>) {
-        if let (true, Some(logger)) = (is_wanted, &self.logger) {
-            logger.log(Level::Debug, &line.to_string());
-        }
-    }
 }
 
 /// The size of a heap of the machine's, by its number.
@@ -460,10 +434,6 @@ fn size_of_heap(number: u64) -> u64 {
     unsafe { heap_size(&heap) }
 }
 
-fn row(piece: NamedPiece) -> AllocationReport {
-    AllocationReport { offset: piece.view.offset, size: piece.view.size(), name: piece.name }
-}
-
 impl fmt::Debug for Allocator {
     fn fmt(&self, f: &mut fmt::Formatter<'_>) -> fmt::Result {
         self.generate_report().fmt(f)
@@ -473,7 +443,7 @@ impl fmt::Debug for Allocator {
 /// The heaps are released behind the lines, also where the logger panics.
 impl Drop for Allocator {
     fn drop(&mut self) {
-        if self.debug_settings.log_leaks_on_shutdown {
+        if self.log.settings.log_leaks_on_shutdown {
             self.report_memory_leaks(Level::Warn);
         }
     }

@@ -6,8 +6,11 @@ use super::Interface;
 use crate::error::{check, check_unrefused, internal};
 use crate::memory_type::BlockStatistics;
 use crate::pieces::Visited;
-use crate::raw::{self, Handle, HeapsCommitted, HeapsCommittedStatistics, HeapsPiece, HeapsProgress, HeapsQuestion};
-use crate::vulkan::{location_number, TypeStatistics};
+use crate::raw::{
+    self, copied_text, Handle, HeapsCommitted, HeapsCommittedStatistics, HeapsPiece, HeapsProgress, HeapsQuestion,
+};
+use crate::statistics::TypeStatistics;
+use crate::vulkan::location_number;
 use crate::{AllocationError, AllocationSizes, Fault, MemoryLocation, Result};
 use std::ffi::c_void;
 
@@ -269,33 +272,18 @@ impl Machine {
 
     /// The report as JSON.
     pub(super) fn report_json(&self) -> Result<String> {
-        self.text(|handle, text, room, length| {
+        copied_text(|text, room, length| {
             // SAFETY: the handle is this machine's alone: it isn't `Sync`. There is room for as many bytes as is said.
-            unsafe { raw::pilhangko_raw_heaps_report(handle, text, room, length) }
+            unsafe { raw::pilhangko_raw_heaps_report(self.handle.as_ptr(), text, room, length) }
         })
     }
 
     /// A live piece's text as a leak, by its index; empty past the last one.
     pub(super) fn leak(&self, index: usize) -> Result<String> {
-        self.text(|handle, text, room, length| {
+        copied_text(|text, room, length| {
             // SAFETY: as above.
-            unsafe { raw::pilhangko_raw_heaps_leak(handle, index, text, room, length) }
+            unsafe { raw::pilhangko_raw_heaps_leak(self.handle.as_ptr(), index, text, room, length) }
         })
-    }
-
-    /// A text that a call copies as much of as there is room for.
-    fn text(&self, copy: impl Fn(*mut Handle, *mut u8, usize, *mut usize) -> u32) -> Result<String> {
-        let mut text = Vec::new();
-        loop {
-            let room = text.len();
-            let mut length = 0;
-            check(copy(self.handle.as_ptr(), text.as_mut_ptr(), room, &mut length))?;
-            if length <= room {
-                return Ok(String::from_utf8(text).expect("the text is UTF-8"));
-            }
-            text.try_reserve_exact(length)?;
-            text.resize(length, 0);
-        }
     }
 }
 

@@ -40,7 +40,7 @@ mod interface;
 mod machine;
 
 pub use crate::defragmentation::{DefragmentationStatistics, MoveKey};
-pub use crate::vulkan::TypeStatistics;
+pub use crate::statistics::TypeStatistics;
 pub use abi::{ClearValue, HeapProperties, ResourceDesc};
 pub use allocation::{Allocation, Resource};
 pub use allocator::{

@@ -1,7 +1,8 @@
 //! A piece of device memory, as its owner holds it.
 
 use super::abi::{DeviceMemory, MemoryPropertyFlags};
-use super::device::Address;
+use super::answer::Address;
+use crate::defragmentation::MoveKey;
 use crate::raw::AllocatorPiece;
 use std::ffi::c_void;
 use std::num::NonZeroU64;
@@ -125,6 +126,11 @@ impl Allocation {
     /// The slot of its block in its memory type; `usize::MAX` where it is null.
     pub fn memory_block_index(&self) -> usize {
         self.held.as_ref().map_or(usize::MAX, |held| held.piece.piece.slot)
+    }
+
+    /// What names it; a null one has no name.
+    pub(super) fn key(&self) -> MoveKey {
+        self.held.as_ref().map_or(MoveKey { owner: 0, number: 0 }, |it| MoveKey { owner: it.owner, number: it.number })
     }
 
     fn address(&self) -> Option<Address> {

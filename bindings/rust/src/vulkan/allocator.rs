@@ -2,22 +2,17 @@
 
 use super::abi::{Buffer, Image, MemoryRequirements};
 use super::allocation::{Allocation, AllocationBlock, Held};
+use super::answer::{Answer, Refusal};
 use super::capture::Capture;
-use super::device::{Answer, Device, Purpose, Refusal};
-use super::machine::{LiveBlock, Machine, Progress, Question};
+use super::device::{Device, Purpose};
+use super::machine::{Machine, Progress, Question};
 use super::options::{AllocationOptions, Chain};
 use super::pool::{lock, Common, PoolCreateDesc};
-use super::reading;
-use crate::defragmentation::propose_some;
+use super::visit::LiveBlock;
 use crate::error::{check, copied};
-use crate::memory_type::BlockStatistics;
-use crate::pieces::Visited;
-use crate::raw::{self, AllocatorPiece, Preference, DRIVER_REFUSED, FAILED_TO_MAP, NOT_LIVE};
-use crate::{
-    AllocationError, AllocationSizes, AllocatorDebugSettings, AllocatorReport, Fault, Level, Logger, MemoryLocation,
-    NamedPiece, Result,
-};
-use std::alloc::{handle_alloc_error, Layout};
+use crate::log::Log;
+use crate::raw::{AllocatorPiece, Preference, DRIVER_REFUSED, FAILED_TO_MAP, NOT_LIVE};
+use crate::{AllocationError, AllocationSizes, AllocatorDebugSettings, Fault, Level, Logger, MemoryLocation, Result};
 use std::fmt;
 use std::sync::atomic::{AtomicU64, Ordering};
 
@@ -78,57 +73,6 @@ impl AllocatorCreateDesc {
     }
 }
 
-/// What is counted of a memory type, and of all its blocks together.
-#[derive(Clone, Copy, Debug, Default, PartialEq, Eq)]
-pub struct TypeStatistics {
-    /// The sum of the blocks' sizes in bytes.
-    pub capacity: u64,
-    /// How many slots there are, the empty ones included.
-    pub slots: usize,
-    /// How many blocks there are that several pieces may share.
-    pub shared_blocks: usize,
-    /// The bound of `capacity`, if there is one.
-    pub budget: Option<u64>,
-    /// How many pieces are live.
-    pub pieces: usize,
-    /// What they take in bytes, with the padding before them.
-    pub piece_bytes: u64,
-    /// How many gaps there are.
-    pub gaps: usize,
-    /// The length of the longest gap in bytes, 0 where there is none.
-    pub longest_gap: u64,
-}
-
-impl TypeStatistics {
-    /// What the library counts.
-    pub(crate) fn counted(s: &raw::TypeStatistics) -> Self {
-        TypeStatistics {
-            capacity: s.capacity,
-            slots: s.slots,
-            shared_blocks: s.shared_blocks,
-            budget: s.has_budget.then_some(s.budget),
-            pieces: s.pieces,
-            piece_bytes: s.piece_bytes,
-            gaps: s.gaps,
-            longest_gap: s.longest_gap,
-        }
-    }
-
-    /// Of two memory types together.
-    pub(crate) fn and(self, other: Self) -> Self {
-        TypeStatistics {
-            capacity: self.capacity + other.capacity,
-            slots: self.slots + other.slots,
-            shared_blocks: self.shared_blocks + other.shared_blocks,
-            budget: None,
-            pieces: self.pieces + other.pieces,
-            piece_bytes: self.piece_bytes + other.piece_bytes,
-            gaps: self.gaps + other.gaps,
-            longest_gap: self.longest_gap.max(other.longest_gap),
-        }
-    }
-}
-
 /// Numbers of allocators: none comes again, so that no allocator takes another one's allocation for its own.
 pub(crate) fn next_owner() -> u64 {
     static NEXT: AtomicU64 = AtomicU64::new(1);
@@ -140,14 +84,13 @@ pub(crate) fn next_owner() -> u64 {
 pub struct Allocator {
     pub(super) machine: Machine,
     owner: u64,
-    requests: u64,
+    pub(super) requests: u64,
     device_address: bool,
     /// The memory types that its blocks may be of.
     pub(super) memory_type_bits: u32,
     /// What is chained where its blocks are asked for.
     next: Option<Chain<'static>>,
-    debug_settings: AllocatorDebugSettings,
-    logger: Option<Logger>,
+    pub(super) log: Log,
     pub(super) capture: Option<Capture>,
 }
 
@@ -167,10 +110,9 @@ impl Allocator {
             memory_type_bits: u32::MAX,
             next: None,
             capture: desc.capture.then(|| Capture::new(device, allocation_sizes)).transpose()?,
-            debug_settings: desc.debug_settings,
-            logger: desc.logger.clone(),
+            log: Log::new(desc.debug_settings, desc.logger.as_ref()),
         };
-        allocator.log_device();
+        allocator.device().describe(&allocator.log);
         Ok(allocator)
     }
 
@@ -184,8 +126,7 @@ impl Allocator {
             device_address: self.device_address,
             memory_type_bits: desc.memory_type_bits.unwrap_or(u32::MAX),
             next: desc.next,
-            debug_settings: self.debug_settings,
-            logger: self.logger.clone(),
+            log: self.log.clone(),
             capture,
         })
     }
@@ -211,7 +152,8 @@ impl Allocator {
         desc: &AllocationCreateDesc<'_>,
         options: &AllocationOptions<'_>,
     ) -> Result<Allocation> {
-        self.log_request(desc);
+        let MemoryRequirements { size, alignment, .. } = desc.requirements;
+        self.log.requested(desc.name, size, alignment);
         let preference = options.preference(desc.location)?;
         let by_flags = preference.is_some();
         let requirements = options.narrow(desc.requirements, self.device().memory_types(), by_flags);
@@ -244,7 +186,7 @@ impl Allocator {
     pub fn free(&mut self, mut allocation: Allocation) -> Result<(), (AllocationError, Allocation)> {
         let result = self.release(&mut allocation);
         // behind the work, so that nothing is lost where the logger panics
-        self.log_free(&allocation);
+        self.log.freed(allocation.name().unwrap_or("<null>"));
         result.map_err(|error| (error, allocation))
     }
 
@@ -258,48 +200,6 @@ impl Allocator {
         }
         allocation.held = None;
         Ok(())
-    }
-
-    /// Looks for a second place for an allocation: the one that this request, which it was made for, would get as a new allocation now, if
-    /// that lies in a block that is looked at before its own; `None` where there is none. The driver isn't asked. Both are live then: bind
-    /// a new buffer or image at the second, copy, and free the first once the device has finished with both, which ends the move; or free
-    /// the second, which abandons it. The second has the first one's user data. The request's memory type bits and location aren't looked at.
-    ///
-    /// The errors, and then nothing changes: `HostOutOfMemory` of the binding's own, `Internal` where it is null or not this allocator's,
-    /// `InvalidAllocationCreateDesc`, also where the size isn't the allocation's or memory for one buffer or image alone is asked for,
-    /// `HostOutOfMemory`.
-    pub fn propose_move(
-        &mut self,
-        allocation: &Allocation,
-        desc: &AllocationCreateDesc<'_>,
-    ) -> Result<Option<Allocation>> {
-        let own = copied(desc.name)?;
-        self.follow_others();
-        let held = self.live(allocation)?;
-        let (piece, number) = (held.piece, held.number);
-        let requirements = self.narrow(desc.requirements);
-        let desc = AllocationCreateDesc { requirements, ..desc.clone() };
-        let to = self.machine.propose_move(&piece, &desc)?;
-        if let Some(capture) = &mut self.capture {
-            capture.moved(number, self.requests + 1, &desc);
-        }
-        let Some(to) = to else { return Ok(None) };
-        self.requests += 1;
-        let user_data = allocation.user_data;
-        Ok(Some(Allocation { held: Some(self.held(to, desc.allocation_scheme)), name: Some(own), user_data }))
-    }
-
-    /// Proposes the moves of a frame: of these allocations, each with the request that it was made for, those in the lowest slots first, so
-    /// that low blocks empty, while they sum up to at most so many bytes. A move is the index of its allocation here and the second place.
-    /// A [`Defragmentation`](super::Defragmentation) keeps those of many frames.
-    ///
-    /// The errors: `HostOutOfMemory` of the list, and those of `propose_move`, where the moves before it are abandoned.
-    pub fn propose_moves(
-        &mut self,
-        movables: &[(&Allocation, AllocationCreateDesc<'_>)],
-        bytes: u64,
-    ) -> Result<Vec<(usize, Allocation)>> {
-        propose_some(self, movables, bytes, usize::MAX, |_| true)
     }
 
     /// Renames an allocation, a null one too.
@@ -350,63 +250,6 @@ impl Allocator {
     /// The bound of a memory type in bytes; `None` where it has none, or isn't there.
     pub fn budget(&self, memory_type: usize) -> Option<u64> {
         self.machine.budget(memory_type)
-    }
-
-    /// The sum of the sizes of the live blocks in bytes.
-    pub fn capacity(&self) -> u64 {
-        self.machine.capacity()
-    }
-
-    /// The sum of the sizes of a memory type's blocks in bytes; `None` where it isn't there.
-    pub fn type_capacity(&self, memory_type: usize) -> Option<u64> {
-        self.machine.type_capacity(memory_type)
-    }
-
-    /// What is counted of a memory type; `None` where it isn't there.
-    pub fn type_statistics(&self, memory_type: usize) -> Option<TypeStatistics> {
-        self.machine.type_statistics(memory_type)
-    }
-
-    /// The same of all memory types together: the sums, and the longest gap of any; without a budget.
-    pub fn statistics(&self) -> TypeStatistics {
-        let types = (0..).map_while(|memory_type| self.type_statistics(memory_type));
-        types.fold(TypeStatistics::default(), TypeStatistics::and)
-    }
-
-    /// What is counted of the block in a slot of a memory type, if one is there.
-    pub fn block_statistics(&self, memory_type: usize, slot: usize) -> Option<BlockStatistics> {
-        self.machine.block_at(memory_type, slot).statistics()
-    }
-
-    /// All live pieces of the block in a slot in order of offset, with their names, in linear time; none where the slot has no block.
-    ///
-    /// The error: `HostOutOfMemory`.
-    pub fn named_pieces(&self, memory_type: usize, slot: usize) -> Result<Vec<NamedPiece>> {
-        self.machine.block_at(memory_type, slot).named()
-    }
-
-    /// What is held: pieces and blocks by memory type, slot and offset. Where the host has no memory for it, the program ends, as it does
-    /// wherever Rust's lists have none; `report_json` and `named_pieces` return an error instead.
-    pub fn generate_report(&self) -> AllocatorReport {
-        reading::report(&self.machine).unwrap_or_else(|_| out_of_host_memory())
-    }
-
-    /// The report as JSON (`gpu_report.allocator` of docs/REPORT.md).
-    ///
-    /// The error: `HostOutOfMemory`.
-    pub fn report_json(&self) -> Result<String> {
-        self.machine.report_json()
-    }
-
-    /// Logs each live allocation as a leak, by memory type, slot and offset, where there is a logger. Where the host has no memory for the
-    /// next ones, the last line says so.
-    pub fn report_memory_leaks(&self, log_level: Level) {
-        if let Some(logger) = &self.logger {
-            let told = reading::leaks(&self.machine, |leak| logger.log(log_level, &leak.to_string()));
-            if told.is_err() {
-                logger.log(log_level, "the host refused memory for further leaks");
-            }
-        }
     }
 
     /// The device that is asked for memory.
@@ -475,7 +318,7 @@ impl Allocator {
     }
 
     /// What is needed of its memory types, in whole atoms.
-    fn narrow(&self, needs: MemoryRequirements) -> MemoryRequirements {
+    pub(super) fn narrow(&self, needs: MemoryRequirements) -> MemoryRequirements {
         let memory_type_bits = needs.memory_type_bits & self.memory_type_bits;
         self.device().in_whole_atoms(MemoryRequirements { memory_type_bits, ..needs })
     }
@@ -515,7 +358,7 @@ impl Allocator {
     }
 
     /// What the owner of a new piece holds of it.
-    fn held(&self, piece: AllocatorPiece, scheme: AllocationScheme) -> Held {
+    pub(super) fn held(&self, piece: AllocatorPiece, scheme: AllocationScheme) -> Held {
         Held {
             piece,
             owner: self.owner,
@@ -524,51 +367,12 @@ impl Allocator {
             is_dedicated: scheme != AllocationScheme::GpuAllocatorManaged,
         }
     }
-
-    fn log(&self, is_wanted: bool, line: fmt::Arguments<'_>) {
-        if let (true, Some(logger)) = (is_wanted, &self.logger) {
-            logger.log(Level::Debug, &line.to_string());
-        }
-    }
-
-    fn log_device(&self) {
-        let (types, heaps) = (self.device().memory_types(), self.device().memory_heaps());
-        let is_wanted = self.debug_settings.log_memory_information;
-        self.log(is_wanted, format_args!("memory type count: {}", types.len()));
-        self.log(is_wanted, format_args!("memory heap count: {}", heaps.len()));
-        for (index, it) in types.iter().enumerate() {
-            let (flags, heap) = (it.property_flags.0, it.heap_index);
-            self.log(is_wanted, format_args!("memory type[{index}]: prop flags: {flags:#x}, heap[{heap}]"));
-        }
-        for (index, heap) in heaps.iter().enumerate() {
-            let (flags, size) = (heap.flags, heap.size >> 20);
-            self.log(is_wanted, format_args!("heap[{index}] flags: {flags:#x}, size: {size} MiB"));
-        }
-    }
-
-    fn log_request(&self, desc: &AllocationCreateDesc<'_>) {
-        let (name, size, alignment) = (desc.name, desc.requirements.size, desc.requirements.alignment);
-        self.log(
-            self.debug_settings.log_allocations,
-            format_args!("Allocating `{name}` of {size} bytes with an alignment of {alignment}."),
-        );
-    }
-
-    fn log_free(&self, allocation: &Allocation) {
-        let name = allocation.name().unwrap_or("<null>");
-        self.log(self.debug_settings.log_frees, format_args!("Freeing `{name}`."));
-    }
 }
 
 /// The request as one for this memory type alone.
 fn of_type<'a>(desc: &AllocationCreateDesc<'a>, memory_type: usize) -> AllocationCreateDesc<'a> {
     let requirements = MemoryRequirements { memory_type_bits: 1 << memory_type, ..desc.requirements };
     AllocationCreateDesc { requirements, ..desc.clone() }
-}
-
-/// Ends the program as Rust's lists do where the host has no memory for them.
-pub(crate) fn out_of_host_memory() -> ! {
-    handle_alloc_error(Layout::new::<AllocatorReport>())
 }
 
 /// Why a request is refused, by its status and what the driver refused last.
@@ -593,82 +397,11 @@ impl fmt::Debug for Allocator {
 /// The blocks go back behind the lines, also where the logger panics.
 impl Drop for Allocator {
     fn drop(&mut self) {
-        if self.debug_settings.log_leaks_on_shutdown {
+        if self.log.settings.log_leaks_on_shutdown {
             self.report_memory_leaks(Level::Warn);
         }
     }
 }
 
 #[cfg(test)]
-mod tests {
-    use super::*;
-    use crate::refused::common::script::Script;
-    use crate::refused::common::FakeDriver;
-    use crate::vulkan::device::Memory;
-    use crate::vulkan::DeviceMemory;
-    use std::sync::Mutex;
-    use std::time::Instant;
-
-    /// The lines that are logged of leaks, and the library's own texts of them.
-    fn leaks(allocator: &mut Allocator) -> (Vec<String>, Vec<String>) {
-        let lines: std::sync::Arc<Mutex<Vec<String>>> = std::sync::Arc::default();
-        let kept = std::sync::Arc::clone(&lines);
-        allocator.logger = Some(Logger::new(move |_, line| kept.lock().expect("one thread").push(line.to_owned())));
-        allocator.report_memory_leaks(Level::Info);
-        allocator.logger = None;
-        let texts = (0..).map(|index| allocator.machine.leak(index)).take_while(|text| !text.is_empty()).collect();
-        let logged = std::mem::take(&mut *lines.lock().expect("one thread"));
-        (logged, texts)
-    }
-
-    #[test]
-    fn leaks_are_logged_in_the_words_of_the_library() {
-        let mut script = Script::new(11, false);
-        let mut calls = 0..;
-        while script.live.len() < 100 || !script.live.iter().any(Allocation::is_dedicated) {
-            script.step(calls.next().expect("calls without end"));
-        }
-        script.end_moves();
-        let (logged, texts) = leaks(&mut script.allocator);
-        assert_eq!((logged.len(), texts.len()), (script.live.len(), script.live.len()));
-        assert!(texts.iter().any(|text| text.contains("dedicated allocation")), "{}", texts.len());
-        assert!(texts.iter().any(|text| text.contains("chunk: ")));
-        for (line, text) in logged.iter().zip(&texts) {
-            assert_eq!(line, text.trim_end());
-        }
-    }
-
-    /// What the crate does at each block doesn't grow with how many there are: 20,000 take about the library's own time.
-    #[test]
-    fn many_blocks_are_as_quick_as_the_library() {
-        let driver = FakeDriver::new(&[(1, 0)], &[1 << 40], 1);
-        let own = AllocationCreateDesc {
-            name: "own",
-            requirements: MemoryRequirements { size: 256, alignment: 1, memory_type_bits: 1 },
-            location: MemoryLocation::GpuOnly,
-            linear: true,
-            allocation_scheme: AllocationScheme::DedicatedBuffer(Buffer(1)),
-        };
-        let begin = Instant::now();
-        let mut machine = Machine::new(&driver.device(), &AllocationSizes::default()).unwrap();
-        let common = machine.share.common();
-        let mut common = lock(&common);
-        for number in 1..=20_000 {
-            assert!(matches!(machine.begin(&own), Ok(Progress::Question(_))));
-            machine.granted(Memory { handle: DeviceMemory(number), address: None }, &mut common);
-        }
-        let alone = begin.elapsed();
-        std::mem::forget(machine); // the driver never gave this memory, and takes none of it back
-        let begin = Instant::now();
-        let mut allocator = Allocator::new(&AllocatorCreateDesc::new(driver.device())).unwrap();
-        let live: Vec<Allocation> = (0..20_000).map(|_| allocator.allocate(&own).unwrap()).collect();
-        let whole = begin.elapsed();
-        assert!(
-            whole.as_secs_f64() < 4.0 * alone.as_secs_f64() + 2.0,
-            "{whole:?}, of which {alone:?} are the library's"
-        );
-        live.into_iter().for_each(|it| allocator.free(it).unwrap());
-        drop(allocator);
-        driver.assert_left_empty();
-    }
-}
+mod tests;

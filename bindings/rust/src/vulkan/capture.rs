@@ -1,6 +1,6 @@
 //! Captures: what was asked of an allocator, as a trace that the program `gpu_trace` replays (docs/TRACE.md).
 
-use super::device::{Answer, Refusal};
+use super::answer::{Answer, Refusal};
 use super::{AllocationCreateDesc, AllocationScheme, Device};
 use crate::{AllocationError, AllocationSizes, Result};
 use std::fmt::{self, Write as _};

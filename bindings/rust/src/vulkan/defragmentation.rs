@@ -2,7 +2,8 @@
 
 use super::allocation::Allocation;
 use super::allocator::{AllocationCreateDesc, Allocator};
-use crate::defragmentation::{self, Movable, MoveKey};
+use crate::defragmentation::{self, movable, propose_some};
+use crate::error::copied;
 use crate::Result;
 
 /// A move that is open: bind the new buffer or image at its second place.
@@ -36,37 +37,48 @@ pub type Move = defragmentation::Move<Allocation>;
 /// ```
 pub type Defragmentation = defragmentation::Defragmentation<Allocation>;
 
-impl Movable for Allocation {
-    type Allocator = Allocator;
-
-    type Desc<'a> = AllocationCreateDesc<'a>;
-
-    fn name(&self) -> MoveKey {
-        let held = self.held.as_ref();
-        MoveKey { owner: held.map_or(0, |it| it.owner), number: held.map_or(0, |it| it.number) }
+impl Allocator {
+    /// Looks for a second place for an allocation: the one that this request, which it was made for, would get as a new allocation now, if
+    /// that lies in a block that is looked at before its own; `None` where there is none. The driver isn't asked. Both are live then: bind
+    /// a new buffer or image at the second, copy, and free the first once the device has finished with both, which ends the move; or free
+    /// the second, which abandons it. The second has the first one's user data. The request's memory type bits and location aren't looked at.
+    ///
+    /// The errors, and then nothing changes: `HostOutOfMemory` of the binding's own, `Internal` where it is null or not this allocator's,
+    /// `InvalidAllocationCreateDesc`, also where the size isn't the allocation's or memory for one buffer or image alone is asked for,
+    /// `HostOutOfMemory`.
+    pub fn propose_move(
+        &mut self,
+        allocation: &Allocation,
+        desc: &AllocationCreateDesc<'_>,
+    ) -> Result<Option<Allocation>> {
+        let own = copied(desc.name)?;
+        self.follow_others();
+        let held = self.live(allocation)?;
+        let (piece, number) = (held.piece, held.number);
+        let requirements = self.narrow(desc.requirements);
+        let desc = AllocationCreateDesc { requirements, ..desc.clone() };
+        let to = self.machine.propose_move(&piece, &desc)?;
+        if let Some(capture) = &mut self.capture {
+            capture.moved(number, self.requests + 1, &desc);
+        }
+        let Some(to) = to else { return Ok(None) };
+        self.requests += 1;
+        let user_data = allocation.user_data;
+        Ok(Some(Allocation { held: Some(self.held(to, desc.allocation_scheme)), name: Some(own), user_data }))
     }
 
-    fn bytes(&self) -> u64 {
-        self.size()
-    }
-
-    fn slot(&self) -> usize {
-        self.memory_block_index()
-    }
-
-    fn second_place(&self, allocator: &mut Allocator, desc: &AllocationCreateDesc<'_>) -> Result<Option<Self>> {
-        allocator.propose_move(self, desc)
-    }
-
-    fn check_live(&self, allocator: &Allocator) -> Result<()> {
-        allocator.live(self).map(|_| ())
-    }
-
-    fn free(self, allocator: &mut Allocator) -> Result<()> {
-        Ok(allocator.free(self)?)
-    }
-
-    fn capacity(allocator: &Allocator) -> u64 {
-        allocator.capacity()
+    /// Proposes the moves of a frame: of these allocations, each with the request that it was made for, those in the lowest slots first, so
+    /// that low blocks empty, while they sum up to at most so many bytes. A move is the index of its allocation here and the second place.
+    /// A [`Defragmentation`](super::Defragmentation) keeps those of many frames.
+    ///
+    /// The errors: `HostOutOfMemory` of the list, and those of `propose_move`, where the moves before it are abandoned.
+    pub fn propose_moves(
+        &mut self,
+        movables: &[(&Allocation, AllocationCreateDesc<'_>)],
+        bytes: u64,
+    ) -> Result<Vec<(usize, Allocation)>> {
+        propose_some(self, movables, bytes, usize::MAX, |_| true)
     }
 }
+
+movable!(Allocation, Allocator, AllocationCreateDesc);

@@ -1,12 +1,10 @@
 //! The proved allocator, which calls no driver: it says what to ask for, and is told the answer.
 
 use super::abi::DeviceMemory;
-use super::device::{Address, Memory};
+use super::answer::{Address, Memory};
 use super::pool::{lock, Common, Share};
-use super::{AllocationCreateDesc, AllocationScheme, Device, TypeStatistics};
+use super::{AllocationCreateDesc, AllocationScheme, Device};
 use crate::error::{check, check_unrefused};
-use crate::memory_type::BlockStatistics;
-use crate::pieces::Visited;
 use crate::raw::{self, AllocatorPiece, AllocatorProgress, Handle};
 use crate::{AllocationSizes, Kind, MemoryLocation, Result};
 
@@ -44,18 +42,8 @@ impl Progress {
     }
 }
 
-/// A live block, as a visit sees it.
-#[derive(Clone, Copy, Debug)]
-pub(super) struct LiveBlock {
-    pub(super) memory_type: usize,
-    pub(super) slot: usize,
-    pub(super) memory: Memory,
-    pub(super) size: u64,
-    pub(super) is_shared: bool,
-}
-
 /// The driver's memory by its number and the number of its address, as the library keeps them.
-fn memory_of(memory: u64, address: u64) -> Memory {
+pub(super) fn memory_of(memory: u64, address: u64) -> Memory {
     Memory { handle: DeviceMemory(memory), address: Address::from_number(address) }
 }
 
@@ -88,7 +76,7 @@ fn raw_request(desc: &AllocationCreateDesc<'_>) -> raw::AllocatorRequest {
 /// The allocator behind its handle, and the device that its blocks go back to: dropping it gives them all back, whatever else fails.
 #[derive(Debug)]
 pub(super) struct Machine {
-    handle: Handle,
+    pub(super) handle: Handle,
     device: Device,
     blocks: usize,
     most_blocks: Option<usize>,
@@ -320,161 +308,6 @@ impl Machine {
         // SAFETY: the handle is this machine's alone: it isn't `Sync`.
         check_unrefused(unsafe { raw::pilhangko_raw_allocator_capacity(self.handle.as_ptr(), &mut bytes) });
         bytes
-    }
-}
-
-/// What is read of it.
-impl Machine {
-    /// The memory type at which a request with these bits begins.
-    pub(super) fn best_type(&self, memory_type_bits: u32, location: MemoryLocation) -> Option<usize> {
-        let (number, mut index) = (location_number(location), 0);
-        // SAFETY: the handle is this machine's alone: it isn't `Sync`.
-        check(unsafe {
-            raw::pilhangko_raw_allocator_best_type(self.handle.as_ptr(), memory_type_bits, number, &mut index)
-        })
-        .ok()?;
-        Some(index)
-    }
-
-    /// The sum of the sizes of a memory type's blocks in bytes, if it is there.
-    pub(super) fn type_capacity(&self, memory_type: usize) -> Option<u64> {
-        let mut bytes = 0;
-        // SAFETY: the handle is this machine's alone: it isn't `Sync`.
-        check(unsafe { raw::pilhangko_raw_allocator_type_capacity(self.handle.as_ptr(), memory_type, &mut bytes) })
-            .ok()?;
-        Some(bytes)
-    }
-
-    /// What is counted of a memory type, if it is there.
-    pub(super) fn type_statistics(&self, memory_type: usize) -> Option<TypeStatistics> {
-        let mut s = raw::TypeStatistics::default();
-        // SAFETY: the handle is this machine's alone: it isn't `Sync`.
-        check(unsafe { raw::pilhangko_raw_allocator_type_statistics(self.handle.as_ptr(), memory_type, &mut s) })
-            .ok()?;
-        Some(TypeStatistics::counted(&s))
-    }
-
-    /// The live blocks by memory type and slot.
-    pub(super) fn blocks(&self) -> impl Iterator<Item = LiveBlock> + '_ {
-        (0..)
-            .map_while(|memory_type| Some((memory_type, self.type_statistics(memory_type)?.slots)))
-            .flat_map(move |(memory_type, slots)| (0..slots).filter_map(move |slot| self.live_block(memory_type, slot)))
-    }
-
-    /// The block in a slot of a memory type, if there is one.
-    pub(super) fn live_block(&self, memory_type: usize, slot: usize) -> Option<LiveBlock> {
-        let mut block = raw::AllocatorBlock::default();
-        // SAFETY: the handle is this machine's alone: it isn't `Sync`.
-        check_unrefused(unsafe {
-            raw::pilhangko_raw_allocator_block(self.handle.as_ptr(), memory_type, slot, &mut block)
-        });
-        let memory = memory_of(block.memory, block.address);
-        block.exists.then_some(LiveBlock { memory_type, slot, memory, size: block.size, is_shared: block.shared })
-    }
-
-    /// The block in a slot, as a visit sees it.
-    pub(super) fn block_at(&self, memory_type: usize, slot: usize) -> BlockAt<'_> {
-        BlockAt { machine: self, memory_type, slot }
-    }
-
-    /// The report as JSON.
-    pub(super) fn report_json(&self) -> Result<String> {
-        let mut text = Vec::new();
-        loop {
-            let room = text.len();
-            let mut length = 0;
-            // SAFETY: the handle is this machine's alone: it isn't `Sync`. There is room for as many bytes as is said.
-            check(unsafe {
-                raw::pilhangko_raw_allocator_report(self.handle.as_ptr(), text.as_mut_ptr(), room, &mut length)
-            })?;
-            if length <= room {
-                return Ok(String::from_utf8(text).expect("JSON is UTF-8"));
-            }
-            text.try_reserve_exact(length)?;
-            text.resize(length, 0);
-        }
-    }
-}
-
-#[cfg(test)]
-impl Machine {
-    /// The library's own text of a live piece as a leak, by its index; empty past the last one.
-    pub(super) fn leak(&self, index: usize) -> String {
-        let mut text = vec![0; 1 << 10];
-        let mut length = 0;
-        // SAFETY: the handle is this machine's alone: it isn't `Sync`. There is room for as many bytes as is said.
-        check_unrefused(unsafe {
-            raw::pilhangko_raw_allocator_leak(self.handle.as_ptr(), index, text.as_mut_ptr(), text.len(), &mut length)
-        });
-        text.truncate(length);
-        String::from_utf8(text).expect("the text is UTF-8")
-    }
-}
-
-/// A block of an allocator, as a visit sees it; there may be none.
-#[derive(Clone, Copy, Debug)]
-pub(super) struct BlockAt<'a> {
-    machine: &'a Machine,
-    memory_type: usize,
-    slot: usize,
-}
-
-impl BlockAt<'_> {
-    /// What is counted of the block, if there is one.
-    pub(super) fn statistics(&self) -> Option<BlockStatistics> {
-        let mut s = raw::MemoryBlockStatistics::default();
-        // SAFETY: the handle is the machine's alone: it isn't `Sync`.
-        check_unrefused(unsafe {
-            raw::pilhangko_raw_allocator_block_statistics(
-                self.machine.handle.as_ptr(),
-                self.memory_type,
-                self.slot,
-                &mut s,
-            )
-        });
-        BlockStatistics::counted(&s)
-    }
-}
-
-impl Visited for BlockAt<'_> {
-    fn count(&self) -> usize {
-        self.statistics().map_or(0, |counted| counted.pieces)
-    }
-
-    fn show(&self, views: &mut [raw::PieceView]) -> (u32, usize) {
-        let mut shown = 0;
-        // SAFETY: the handle is the machine's alone: it isn't `Sync`. There is room for as many views as is said.
-        let status = unsafe {
-            raw::pilhangko_raw_allocator_pieces(
-                self.machine.handle.as_ptr(),
-                self.memory_type,
-                self.slot,
-                0,
-                views.as_mut_ptr(),
-                views.len(),
-                &mut shown,
-            )
-        };
-        (status, shown)
-    }
-
-    fn show_names(&self, lengths: &mut [usize], names: &mut [u8]) -> (u32, usize) {
-        let mut shown = 0;
-        // SAFETY: the handle is the machine's alone: it isn't `Sync`. There is room for as many lengths and bytes as is said.
-        let status = unsafe {
-            raw::pilhangko_raw_allocator_piece_names(
-                self.machine.handle.as_ptr(),
-                self.memory_type,
-                self.slot,
-                0,
-                lengths.as_mut_ptr(),
-                lengths.len(),
-                names.as_mut_ptr(),
-                names.len(),
-                &mut shown,
-            )
-        };
-        (status, shown)
     }
 }
 

@@ -34,6 +34,7 @@
 mod abi;
 mod allocation;
 mod allocator;
+mod answer;
 mod budgets;
 mod capture;
 mod defragmentation;
@@ -48,18 +49,20 @@ mod resources;
 mod shared;
 mod transient;
 mod upload_ring;
+mod visit;
 
 pub use abi::{
     AllocateMemory, Buffer, DeviceFunctions, DeviceMemory, FreeMemory, Image, MapMemory, MappedMemoryRange,
     MemoryAllocateFlagsInfo, MemoryAllocateInfo, MemoryDedicatedAllocateInfo, MemoryHeap, MemoryPropertyFlags,
     MemoryRequirements, MemoryType, PhysicalDeviceMemoryProperties, SyncMappedMemoryRanges, UnmapMemory, VoidFunction,
 };
-pub(crate) use allocator::{next_owner, out_of_host_memory};
+pub(crate) use allocator::next_owner;
 pub(crate) use machine::location_number;
 
 pub use crate::defragmentation::{DefragmentationStatistics, MoveKey};
+pub use crate::statistics::TypeStatistics;
 pub use allocation::{Allocation, AllocationBlock};
-pub use allocator::{AllocationCreateDesc, AllocationScheme, Allocator, AllocatorCreateDesc, TypeStatistics};
+pub use allocator::{AllocationCreateDesc, AllocationScheme, Allocator, AllocatorCreateDesc};
 pub use budgets::{Heap, HeapBudget};
 pub use capture::{Capture, CaptureEnd};
 pub use defragmentation::{Defragmentation, Move};

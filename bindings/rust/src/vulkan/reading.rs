@@ -1,36 +1,74 @@
-//! What is read of an allocator: its report, and its live pieces as leaks.
+//! What is read of an allocator: what is counted, its report, and its live pieces as leaks.
 
-use super::machine::{LiveBlock, Machine};
+use super::allocator::Allocator;
+use super::machine::Machine;
+use super::visit::LiveBlock;
+use crate::error::out_of_host_memory;
+use crate::memory_type::BlockStatistics;
 use crate::pieces::Visited;
-use crate::{AllocationReport, AllocatorReport, Kind, MemoryBlockReport, NamedPiece, PieceView, Result};
+use crate::report::report_of;
+use crate::statistics::TypeStatistics;
+use crate::{AllocatorReport, Kind, Level, NamedPiece, PieceView, Result};
 use std::fmt;
 
-/// What is held, by memory type, slot and offset.
-pub(super) fn report(machine: &Machine) -> Result<AllocatorReport> {
-    let mut report = AllocatorReport {
-        allocations: Vec::new(),
-        blocks: Vec::new(),
-        total_allocated_bytes: 0,
-        total_capacity_bytes: machine.capacity(),
-    };
-    for block in machine.blocks() {
-        let pieces = machine.block_at(block.memory_type, block.slot).named()?;
-        let start = report.allocations.len();
-        report.total_allocated_bytes += pieces.iter().map(|it| it.view.end - it.view.start).sum::<u64>();
-        report.allocations.try_reserve(pieces.len())?;
-        report.allocations.extend(pieces.into_iter().map(row));
-        report.blocks.try_reserve(1)?;
-        report.blocks.push(MemoryBlockReport { size: block.size, allocations: start..report.allocations.len() });
+impl Allocator {
+    /// The sum of the sizes of the live blocks in bytes.
+    pub fn capacity(&self) -> u64 {
+        self.machine.capacity()
     }
-    Ok(report)
-}
 
-fn row(piece: NamedPiece) -> AllocationReport {
-    AllocationReport { offset: piece.view.offset, size: piece.view.size(), name: piece.name }
+    /// The sum of the sizes of a memory type's blocks in bytes; `None` where it isn't there.
+    pub fn type_capacity(&self, memory_type: usize) -> Option<u64> {
+        self.machine.type_capacity(memory_type)
+    }
+
+    /// What is counted of a memory type; `None` where it isn't there.
+    pub fn type_statistics(&self, memory_type: usize) -> Option<TypeStatistics> {
+        self.machine.type_statistics(memory_type)
+    }
+
+    /// The same of all memory types together: the sums, and the longest gap of any; without a budget.
+    pub fn statistics(&self) -> TypeStatistics {
+        let types = (0..).map_while(|memory_type| self.type_statistics(memory_type));
+        types.fold(TypeStatistics::default(), TypeStatistics::and)
+    }
+
+    /// What is counted of the block in a slot of a memory type, if one is there.
+    pub fn block_statistics(&self, memory_type: usize, slot: usize) -> Option<BlockStatistics> {
+        self.machine.block_at(memory_type, slot).statistics()
+    }
+
+    /// All live pieces of the block in a slot in order of offset, with their names, in linear time; none where the slot has no block.
+    ///
+    /// The error: `HostOutOfMemory`.
+    pub fn named_pieces(&self, memory_type: usize, slot: usize) -> Result<Vec<NamedPiece>> {
+        self.machine.block_at(memory_type, slot).named()
+    }
+
+    /// What is held: pieces and blocks by memory type, slot and offset. Where the host has no memory for it, the program ends, as it does
+    /// wherever Rust's lists have none; `report_json` and `named_pieces` return an error instead.
+    pub fn generate_report(&self) -> AllocatorReport {
+        let machine = &self.machine;
+        let named = |it: LiveBlock| (it.size, machine.block_at(it.memory_type, it.slot).named());
+        report_of(machine.capacity(), machine.blocks().map(named)).unwrap_or_else(|_| out_of_host_memory())
+    }
+
+    /// The report as JSON (`gpu_report.allocator` of docs/REPORT.md).
+    ///
+    /// The error: `HostOutOfMemory`.
+    pub fn report_json(&self) -> Result<String> {
+        self.machine.report_json()
+    }
+
+    /// Logs each live allocation as a leak, by memory type, slot and offset, where there is a logger. Where the host has no memory for the
+    /// next ones, the last line says so.
+    pub fn report_memory_leaks(&self, log_level: Level) {
+        self.log.leaks(log_level, |log| leaks(&self.machine, |leak| log(&leak.to_string())));
+    }
 }
 
 /// Hands each live piece to `tell`, as a leak, by memory type, slot and offset.
-pub(super) fn leaks(machine: &Machine, mut tell: impl FnMut(Leak<'_>)) -> Result<()> {
+fn leaks(machine: &Machine, mut tell: impl FnMut(Leak<'_>)) -> Result<()> {
     for LiveBlock { memory_type, slot, is_shared, .. } in machine.blocks() {
         for NamedPiece { view, name } in &machine.block_at(memory_type, slot).named()? {
             tell(Leak { memory_type, slot, is_shared, view, name });
@@ -41,7 +79,7 @@ pub(super) fn leaks(machine: &Machine, mut tell: impl FnMut(Leak<'_>)) -> Result
 
 /// A live piece as a leak. It prints the lines that are logged of it: of a piece of a shared block with its padding.
 #[derive(Clone, Copy, Debug)]
-pub(super) struct Leak<'a> {
+struct Leak<'a> {
     memory_type: usize,
     slot: usize,
     is_shared: bool,
