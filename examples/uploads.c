@@ -1,6 +1,6 @@
-/* A ring of the Vulkan binding: 300 frames, three in flight, each with uploads of other sizes, which the device copies while the host
- * writes the next frames'. What it copied is read back when the frame's fence is signaled, and only then is the frame retired. In C11 and in
- * C++20. */
+/* A ring of the Vulkan binding, in a pool of small blocks: 300 frames, three in flight, each with uploads of other sizes, which the device copies
+ * while the host writes the next frames'. What it copied is read back when the frame's fence is signaled, and only then is the frame retired.
+ * In C11 and in C++20. */
 #define PILHANGKO_VULKAN_LINKED
 #include "pilhangko_vulkan.h"
 #include "vulkan_device.h"
@@ -26,7 +26,7 @@ struct frame {
 struct uploads {
     struct gpu gpu;
     VkCommandPool pool; /* whose command buffers are recorded anew each time */
-    pilhangko_vulkan vulkan;
+    pilhangko_vulkan vulkan, staging; /* the second is a pool of the first, which the ring lies in */
     pilhangko_vulkan_ring ring;
     VkBuffer back; /* what the device copied, a part for each frame in flight */
     pilhangko_vulkan_allocation back_memory;
@@ -49,11 +49,13 @@ static void make_rings(struct uploads *u) {
     const pilhangko_vulkan_settings settings = {
         .physical_device = u->gpu.physical_device, .device = u->gpu.device, .functions = &functions, .api_version = VULKAN_VERSION};
     check(pilhangko_vulkan_create(&u->vulkan, &settings));
+    const pilhangko_vulkan_pool_settings small = {.device_block_size = 4 << 20, .host_block_size = 4 << 20};
+    check(pilhangko_vulkan_create_pool(&u->vulkan, &small, &u->staging));
     const pilhangko_vulkan_ring_settings ring = {.size = RING_BYTES,
         .frames = IN_FLIGHT,
         .usage = VK_BUFFER_USAGE_TRANSFER_SRC_BIT,
         .placement = {.location = PILHANGKO_VULKAN_LOCATION_STAGING, .name = "uploads"}};
-    check(pilhangko_vulkan_ring_create(&u->vulkan, &ring, &u->ring).status);
+    check(pilhangko_vulkan_ring_create(&u->staging, &ring, &u->ring).status);
     const VkBufferCreateInfo info = {
         .sType = VK_STRUCTURE_TYPE_BUFFER_CREATE_INFO, .size = IN_FLIGHT * PART_BYTES, .usage = VK_BUFFER_USAGE_TRANSFER_DST_BIT};
     const pilhangko_vulkan_placement placement = {.location = PILHANGKO_LOCATION_GPU_TO_CPU, .name = "back"};
@@ -103,7 +105,7 @@ static void submit(struct uploads *u, unsigned index, uint32_t seed) {
     frame->copied = 0;
     for (uint32_t count = 1 + next(&seed) % UPLOADS; count > 0; count--) upload(u, frame, index * PART_BYTES, &seed);
     show_to_host(frame->commands);
-    check(pilhangko_vulkan_ring_flush(&u->vulkan, &u->ring).status);
+    check(pilhangko_vulkan_ring_flush(&u->staging, &u->ring).status);
     check(pilhangko_vulkan_ring_end_frame(&u->ring, &frame->number));
     VK(vkEndCommandBuffer(frame->commands));
     VK(vkQueueSubmit(u->gpu.queue, 1, &info, frame->fence));
@@ -128,7 +130,8 @@ static void end(struct uploads *u) {
     for (unsigned i = 0; i < IN_FLIGHT; i++) vkDestroyFence(u->gpu.device, u->frames[i].fence, NULL);
     vkDestroyCommandPool(u->gpu.device, u->pool, NULL);
     check(pilhangko_vulkan_destroy_buffer(&u->vulkan, u->back, &u->back_memory));
-    check(pilhangko_vulkan_ring_destroy(&u->vulkan, &u->ring));
+    check(pilhangko_vulkan_ring_destroy(&u->staging, &u->ring));
+    check(pilhangko_vulkan_destroy(&u->staging, NULL)); /* before its parent */
     check(pilhangko_vulkan_destroy(&u->vulkan, NULL));
     end_gpu(&u->gpu);
 }

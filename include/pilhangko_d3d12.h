@@ -191,11 +191,10 @@ typedef struct pilhangko_d3d12_defragmentation {
 
 /* Proposes the moves of a frame, as pilhangko_d3d12_propose_move does, and remembers them as open: goes over the table, allocations in the lowest
  * slot first, so that low heaps empty, and proposes moves that sum up to so many bytes at most, and that moves has room for. *proposed says how
- * many. Allocations that are a place of an open move are passed over, so that the table may be the same each frame, and so are
- * committed resources. One that shall stay
- * isn't put into it; one of more than so many bytes stays. Once none is proposed while none is open, it is done: by these bounds no allocation of
- * the table has a place in a heap that is looked at before its own. Where a proposal fails, those before it in this frame are abandoned, and what
- * moves holds doesn't count.
+ * many. Allocations that are a place of an open move are passed over, so that the table may be the same each frame, and so are committed resources.
+ * One that shall stay isn't put into it; one of more than so many bytes stays. Once none is proposed while none is open, it is done: by these bounds
+ * no allocation of the table has a place in a heap that is looked at before its own. Where a proposal fails, those before it in this frame are
+ * abandoned, and what moves holds doesn't count.
  * NULL_POINTER. NO_HANDLE. NOT_LIVE: moves of another binding are open. HOST_OUT_OF_MEMORY: its own, as it goes. The causes of
  * pilhangko_d3d12_propose_move. */
 PILHANGKO_NODISCARD PILHANGKO_API pilhangko_status PILHANGKO_CALL pilhangko_d3d12_defragmentation_propose(pilhangko_d3d12 *d3d12,
@@ -203,8 +202,8 @@ PILHANGKO_NODISCARD PILHANGKO_API pilhangko_status PILHANGKO_CALL pilhangko_d3d1
     size_t room, size_t *proposed);
 
 /* Finishes the open move to this second place: frees the first one, and gives its heap back where that goes too. The resource at the first is
- * released before, by its last reference. (Where
- * pilhangko_d3d12_destroy_resource freed the first place with it, the move is finished all the same, but no heap of it is counted as given back.).
+ * released before, by its last reference. (Where pilhangko_d3d12_destroy_resource freed the first place with it, the move is finished all the same,
+ * but no heap of it is counted as given back.)
  * NULL_POINTER. NO_HANDLE. NOT_LIVE: no open move of this binding is to this place, or the place was freed. */
 PILHANGKO_NODISCARD PILHANGKO_API pilhangko_status PILHANGKO_CALL pilhangko_d3d12_defragmentation_finish(
     pilhangko_d3d12 *d3d12, pilhangko_d3d12_defragmentation *it, const pilhangko_d3d12_allocation *to);

@@ -7,9 +7,9 @@ mod vulkan;
 
 use pilhangko::vulkan::{
     AllocationCreateDesc, AllocationScheme, Allocator, AllocatorCreateDesc, BufferCreateInfo, MemoryRequirements,
-    Placement,
+    Placement, PoolCreateDesc,
 };
-use pilhangko::MemoryLocation;
+use pilhangko::{AllocationSizes, MemoryLocation};
 use vulkan::{image_info, Resource, Vulkan};
 
 const LOCATIONS: [MemoryLocation; 4] =
@@ -112,5 +112,39 @@ fn resources_are_made_with_their_memory() {
         unsafe { allocator.destroy_image(image, it) }.unwrap();
     }
     drop(allocator);
+    assert_eq!(vulkan.messages(), 0);
+}
+
+/// A pool and its allocator over one device: the blocks of both are what is held.
+#[test]
+fn a_pool_has_blocks_of_its_own() {
+    let Some(vulkan) = Vulkan::open() else {
+        eprintln!("no Vulkan device here: no real driver was asked");
+        return;
+    };
+    let mut allocator = Allocator::new(&AllocatorCreateDesc::new(vulkan.whole_device())).unwrap();
+    let allocation_sizes = AllocationSizes::new(4 << 20, 4 << 20);
+    let desc = PoolCreateDesc { allocation_sizes, most_blocks: Some(2), ..PoolCreateDesc::default() };
+    let mut pool = allocator.create_pool(&desc).unwrap();
+    let placement = Placement::new("buffer", MemoryLocation::CpuToGpu);
+    let mut live = Vec::new();
+    for index in 0..40u64 {
+        let info = BufferCreateInfo::new(100_000 + index, 3);
+        let a = if index % 4 == 0 { &mut allocator } else { &mut pool };
+        // SAFETY: the device makes such buffers.
+        let (buffer, mut it) = unsafe { a.create_buffer(&info, &placement) }.unwrap();
+        it.mapped_slice_mut().expect("uploads are mapped").fill(index as u8);
+        live.push((index, buffer, it));
+    }
+    assert_eq!(pool.capacity(), 4 << 20);
+    let held = (0..).map_while(|heap| pool.read_heap(heap)).map(|it| it.held);
+    assert_eq!(held.sum::<u64>(), allocator.capacity() + pool.capacity());
+    for (index, buffer, it) in live {
+        assert!(it.mapped_slice().expect("uploads are mapped").iter().all(|&byte| byte == index as u8));
+        let a = if index % 4 == 0 { &mut allocator } else { &mut pool };
+        // SAFETY: it is bound there, and the device doesn't use it.
+        unsafe { a.destroy_buffer(buffer, it) }.unwrap();
+    }
+    drop((allocator, pool));
     assert_eq!(vulkan.messages(), 0);
 }
