@@ -3,13 +3,13 @@
 
 mod common;
 
-use common::script::Script;
-use common::{FakeDriver, Refusal, MB};
+use common::script::{reply, Script};
+use common::{FakeDriver, Random, Refusal, MB};
 use pilhangko::vulkan::{
     Allocation, AllocationCreateDesc, AllocationScheme, Allocator, AllocatorCreateDesc, Buffer, Capture, CaptureEnd,
-    Image, MemoryRequirements,
+    Image, MemoryRequirements, PoolCreateDesc,
 };
-use pilhangko::{AllocationSizes, MemoryLocation};
+use pilhangko::{AllocationError, AllocationSizes, MemoryLocation};
 use std::io::Write;
 use std::process::{Command, Stdio};
 use std::thread;
@@ -206,6 +206,63 @@ fn random_runs_replay_with_the_same_replies() {
         }
         assert_eq!(replayed[replayed.len() - 2], capacity.to_string());
     }
+}
+
+/// The replies to the commands of a capture, where budgets stand between those that were counted.
+fn behind_budgets(capture: &Capture, replies: Vec<String>) -> Vec<String> {
+    let mut replies = replies.into_iter();
+    let commands = capture.lines().skip_while(|line| *line != "new");
+    let told = commands.map(|line| if line.starts_with("budget") { Some("ok".to_owned()) } else { replies.next() });
+    told.map(|it| it.expect("each command has a reply")).collect()
+}
+
+/// Each has what the others leave of 9 blocks and of the heaps' limits: its capture has that as budgets, and replays the same.
+#[test]
+fn captures_of_pools_replay() {
+    let driver = FakeDriver::new(&[(1, 0), (6, 1), (7, 0)], &[100 * MB, 50 * MB], 64).with_most_memories(9);
+    let first = Allocator::new(&described(&driver)).unwrap();
+    let sizes =
+        PoolCreateDesc { capture: true, allocation_sizes: described(&driver).allocation_sizes, ..Default::default() };
+    let second = first.create_pool(&PoolCreateDesc { memory_type_bits: Some(5), ..sizes.clone() }).unwrap();
+    let third = first.create_pool(&PoolCreateDesc { most_blocks: Some(3), ..sizes }).unwrap();
+    let mut all = [first, second, third].map(|a| (a, vec!["ok".to_owned()], Vec::new()));
+    let (mut random, mut above_bounds) = (Random(3), 0);
+    for _ in 0..6000 {
+        let (a, replies, live) = &mut all[random.below(3) as usize];
+        match random.below(20) {
+            0 => a
+                .set_heap_limit(
+                    random.below(2) as usize,
+                    [None, Some(random.below(40 * MB))][random.below(3).min(1) as usize],
+                )
+                .unwrap(),
+            1..=11 if live.len() < 8 => {
+                let location = random.of(&[MemoryLocation::Unknown, MemoryLocation::GpuOnly, MemoryLocation::CpuToGpu]);
+                let needs = MemoryRequirements {
+                    memory_type_bits: 7,
+                    ..request("", 1 + random.below(5 * MB), location).requirements
+                };
+                let it = a.allocate(&AllocationCreateDesc { requirements: needs, ..request("piece", 1, location) });
+                replies.push(reply(&it));
+                above_bounds += u64::from(it.as_ref().is_err_and(|error| *error == AllocationError::BudgetExceeded));
+                live.extend(it);
+            }
+            _ if !live.is_empty() => {
+                a.free(live.swap_remove(random.below(live.len() as u64) as usize)).unwrap();
+                replies.push("ok".to_owned());
+            }
+            _ => {}
+        }
+    }
+    assert!(above_bounds > 500, "{above_bounds}");
+    for (a, mut replies, live) in all {
+        drop(live);
+        let capture = a.destroy().expect("the run is captured");
+        replies.push("held 0".to_owned());
+        assert_replays(&capture, &behind_budgets(&capture, replies));
+    }
+    assert_eq!(driver.state().most_held, 9);
+    driver.assert_left_empty();
 }
 
 #[test]

@@ -121,7 +121,7 @@ fn place(it: &Allocation) -> (usize, usize, u64) {
 }
 
 /// What a trace replies to a request.
-fn reply(result: &Result<Allocation>) -> Reply {
+pub fn reply(result: &Result<Allocation>) -> Reply {
     match result {
         Err(error) => format!("error E{}", error.number()),
         Ok(it) => reply_of(it),
