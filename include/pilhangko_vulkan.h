@@ -156,10 +156,9 @@ typedef struct pilhangko_vulkan_pool_settings {
  * The parent outlives its pools, and a pool's chain lives as long as the pool. It has what may be asked of any block: a priority, handle types for
  * export; no import. Where a request has a chain, that counts in its place.
  *
- * Pools and their parent are called on any threads at once, also to make and end pools: they share the parent's lock, so between lock and unlock of one
- * no other one is called.
- * Together they have no more blocks than the driver grants, and one limit of each heap: read_heap, update_budgets and the calls of limits speak of
- * all of them, whichever is asked. Budgets of memory types are each one's.
+ * Pools and their parent are called on any threads at once, also to make and end pools: they share the parent's lock, so between lock and unlock of
+ * one no other one is called. Together they have no more blocks than the driver grants, and one limit of each heap: read_heap, update_budgets and the
+ * calls of limits speak of all of them, whichever is asked. Budgets of memory types are each one's.
  * NULL_POINTER. NO_HANDLE: the parent's. IN_USE: the pool's handle isn't empty. NO_SUCH_TYPE: the device has none of the memory types. INVALID: a
  * VkMemoryDedicatedAllocateInfo in the chain. HOST_OUT_OF_MEMORY. */
 PILHANGKO_NODISCARD PILHANGKO_API pilhangko_status PILHANGKO_CALL pilhangko_vulkan_create_pool(
