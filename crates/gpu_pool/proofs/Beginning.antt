@@ -19,7 +19,7 @@ use Rattle.gpu_pool.specs.Allocate.{request_at, NothingMet}
 use Rattle.gpu_pool.specs.Begin.{NoneAsked, Gives}
 use Rattle.gpu_pool.specs.Idle.{FreesIn, FreesIdle, RenamesIn, RenamesIdle}
 use Rattle.gpu_pool.specs.Live.{IsLive, StayLive}
-use Rattle.gpu_pool.specs.RequestState.{RequestState, requests_of, pool_of, CanAnswer}
+use Rattle.gpu_pool.specs.RequestState.{RequestState, requests_of, with_sizes, pool_of, CanAnswer}
 use Rattle.gpu_pool.specs.State.{State, kind_at, IsSoundAt}
 use Rattle.gpu_pool.specs.declared.requests.Awaited.{Awaited}
 use Rattle.gpu_pool.specs.declared.requests.Begun.{Begun}
@@ -28,6 +28,10 @@ use Rattle.gpu_pool.proofs.Freeing.{type_below}
 use Rattle.gpu_pool.proofs.Naming.{named_stay}
 use Rattle.gpu_pool.proofs.Owning.{sound_at, allocates_owns, allocates_at}
 use Rattle.gpu_pool.proofs.Preparing.{inside, taken, waiting}
+
+-- requests are the same where they are with other sizes, and their own are
+pub sized_back : {H : Type 0} (sizes : Sizes) (a b : RequestState H) → a.sizes ≡ b.sizes → with_sizes sizes a ≡ with_sizes sizes b → a ≡ b
+sized_back sizes a b own same = λ i. record (same i) { sizes = own i }
 
 -- what a request makes of live pieces
 pub record Owned {H : Type 0} (eq : H → H → Bool) (t alignment : ℕ) (old new : Slots H) (result : Result (Begun H) AllocationError) : Type 0 where

@@ -26,6 +26,10 @@ pub record RequestState (H : Type 0) : Type 0 where
 abbrev pub requests_of : {H : Type 0} → Sizes → Types H → Option Awaited → RequestState H
 requests_of sizes types awaited = record { kinds = kinds types; sizes = sizes; slots = slots_of types; budgets = budgets types; awaited = awaited }
 
+-- the same with other sizes of shared blocks
+abbrev pub with_sizes : {H : Type 0} → Sizes → RequestState H → RequestState H
+with_sizes sizes s = record s { sizes = sizes }
+
 -- the same as a pool over a source
 abbrev pub pool_of : {S H : Type 0} → S → RequestState H → pools.State S H
 pool_of source s = record { source = source; sizes = s.sizes; slots = s.slots; budgets = s.budgets }

@@ -1,6 +1,6 @@
 //! Requests: a piece of a shared block at once, or one question for a new block, which is granted or declined.
 
-ghost use Rattle.std.specs.Prelude.{◌≡◌, ◌≢◌, ◌↔◌, ◌<◌, ℕ, None, false, length, IfOk, IsTrue, IsSome};
+ghost use Rattle.std.specs.Prelude.{◌≡◌, ◌≢◌, ◌↔◌, ◌<◌, ℕ, None, false, length, IfOk, IfSome, IsTrue, IsSome};
 ghost use Rattle.std.specs.Int.{is_power_of_two};
 ghost use Rattle.std.specs.Option.{option_map};
 ghost use Rattle.gpu_core.specs.declared.piece.Piece.{Piece};
@@ -12,7 +12,7 @@ ghost use Rattle.gpu_core.specs.Types.{slots_of, kinds};
 ghost use Rattle.gpu_pool.specs.Allocate.{request_at};
 ghost use Rattle.gpu_pool.specs.Live.{IsLive, StayLive};
 ghost use Rattle.gpu_pool.specs.State.{IsSoundAt};
-ghost use Rattle.gpu_pool.specs.RequestState.{requests_of};
+ghost use Rattle.gpu_pool.specs.RequestState.{requests_of, with_sizes};
 ghost use Rattle.gpu_pool.specs.Begin.{question_of, Begins, Grants, Declines, Gives, GivesAwaited};
 ghost use Rattle.gpu_pool.specs.Idle.{FreesIdle, RenamesIdle, SetsBudgetIdle};
 ghost use Rattle.gpu_pool.specs.Move.{ProposesIdle, GivesPlace};
@@ -93,7 +93,8 @@ impl<H: Copy + Eq> Requests<H> {
 
     /// The question that is open.
     pub fn question(&self) -> Option<Question>
-        ensures { result ≡ option_map question_of self.now.awaited }
+        ensures open { result ≡ option_map question_of self.now.awaited }
+        ensures there { IfSome result (λ q. q.memory_type < length self.now.kinds) }
     {
         let awaited = self.awaited.as_ref()?;
         Some(Question {
@@ -134,6 +135,31 @@ impl<H: Copy + Eq> Requests<H> {
             need,
         });
         Ok(Begun::Question(question))
+    }
+
+    /// The same as `begin`, but that the next shared block has one of these sizes.
+    pub fn begin_sized(
+        &mut self,
+        index: usize,
+        request: &Request,
+        sizes: &AllocationSizes,
+    ) -> Result<Begun<H>>
+        requires there { index < length self.old.kinds }
+        requires sized { 0 < request.now.size }
+        requires aligned { IsTrue (is_power_of_two request.now.alignment) }
+        requires piece { request.now.kind ≢ AllocationType.Free }
+        ensures begins { Begins (request_at index request.now tt) (with_sizes sizes.now self.old)
+            result (with_sizes sizes.now self.new) }
+        ensures sizes { self.new.sizes ≡ self.old.sizes }
+        ensures gives { Gives H.eq index request.now.alignment self.old.slots self.new.slots
+            result }
+        ensures keeps { StayLive H.eq self.old.slots self.new.slots }
+    {
+        let usual = self.sizes;
+        self.sizes = *sizes;
+        let begun = self.begin(index, request);
+        self.sizes = usual;
+        begun
     }
 
     /// The block that was asked for is there, under this handle. It takes no host memory, and isn't refused but where no

@@ -1,5 +1,5 @@
 -- The sizes of the blocks that pieces share, in bytes.
-use Rattle.std.specs.Prelude.{ℕ, ◌*◌, ◌^◌, ◌≤◌, min, max, Bool, if◌then◌else◌}
+use Rattle.std.specs.Prelude.{ℕ, ◌*◌, ◌/◌, ◌^◌, ◌≤◌, min, max, Bool, if◌then◌else◌}
 use Rattle.std.specs.Int.{next_multiple_of}
 
 -- bytes in a megabyte
@@ -26,6 +26,17 @@ only_size size = record { smallest = block_size_near size; largest = block_size_
 
 abbrev pub with_largest : SizeRange → ℕ → SizeRange
 with_largest range size = record { smallest = range.smallest; largest = max (block_size_near size) range.smallest }
+
+-- the largest block size that isn't above the one told: a multiple of 4 MB, 4 MB at least
+abbrev pub block_size_below : ℕ → ℕ
+block_size_below size = max (size / (4 * mb) * (4 * mb)) (4 * mb)
+
+abbrev pub range_at_most : SizeRange → ℕ → SizeRange
+range_at_most range size = record { smallest = min range.smallest (block_size_below size); largest = min range.largest (block_size_below size) }
+
+-- no block is larger than the size told
+abbrev pub sizes_at_most : Sizes → ℕ → Sizes
+sizes_at_most sizes size = record { device = range_at_most sizes.device size; host = range_at_most sizes.host size }
 
 abbrev pub range_of : Sizes → Bool → SizeRange
 range_of sizes is_host = if is_host then sizes.host else sizes.device

@@ -62,7 +62,7 @@ impl Model for AllocationSizes {
 
 impl AllocationSizes {
     ghost use Rattle.std.specs.Prelude.{◌≡◌, ◌≤◌, ◌*◌};
-    ghost use Rattle.gpu_values.specs.Sizes.{Sizes, mb, only_size, with_largest, shared_block_size};
+    ghost use Rattle.gpu_values.specs.Sizes.{Sizes, mb, only_size, with_largest, sizes_at_most, shared_block_size};
 
     /// One size in bytes for all blocks of the device's memory, and one for all blocks that the host can see; they don't
     /// double. Each is brought into 4 MB to 256 MB and rounded up to a multiple of 4 MB.
@@ -105,6 +105,19 @@ impl AllocationSizes {
         }
     }
 
+    /// The same with no block above this size in bytes. It is rounded down to a multiple of 4 MB, and is 4 MB at least.
+    pub fn at_most(self, size: u64) -> Self
+        ensures { result ≡ sizes_at_most self size }
+    {
+        let largest = block_size_below(size);
+        AllocationSizes {
+            min_device_memblock_size: self.min_device_memblock_size.min(largest),
+            max_device_memblock_size: self.max_device_memblock_size.min(largest),
+            min_host_memblock_size: self.min_host_memblock_size.min(largest),
+            max_host_memblock_size: self.max_host_memblock_size.min(largest),
+        }
+    }
+
     /// The size in bytes of the next shared block of a memory type with `count` live ones. `is_host` says whether the host
     /// can see its memory.
     pub fn memblock_size(&self, is_host: bool, count: usize) -> u64
@@ -134,7 +147,7 @@ impl Default for AllocationSizes {
 }
 
 ghost use Rattle.std.specs.Prelude.{◌≡◌, ◌≤◌, ◌*◌, ◌^◌, min};
-ghost use Rattle.gpu_values.specs.Sizes.{mb, block_size_near};
+ghost use Rattle.gpu_values.specs.Sizes.{mb, block_size_near, block_size_below};
 
 /// A size between the limits, and a whole number of steps.
 fn block_size_near(size: u64) -> u64
@@ -143,6 +156,14 @@ fn block_size_near(size: u64) -> u64
     ensures high { result ≤ 256 * mb }
 {
     size.max(STEP).min(LARGEST).next_multiple_of(STEP)
+}
+
+/// The largest block size that isn't above this one, or else the smallest one.
+fn block_size_below(size: u64) -> u64
+    ensures value { result ≡ block_size_below size }
+    ensures low { 4 * mb ≤ result }
+{
+    (size / STEP * STEP).max(STEP)
 }
 
 /// A block size doubled `count` times, at most seven times.
