@@ -1,5 +1,6 @@
 pub mod VulkanBeginning
 pub mod VulkanRunning
+pub mod VulkanQuestions
 pub mod MetalBeginning
 pub mod D3D12Beginning
 pub mod VulkanMoving

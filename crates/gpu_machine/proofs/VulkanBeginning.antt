@@ -1,9 +1,9 @@
 -- Requests at Vulkan's machine, as its code comes to them, and its other calls as the allocator's.
-use Rattle.std.proofs.Common.{◌≡◌, ◌∙◌, refl, sym, ap, subst, ⊎_elim, ℕ, Bool, true, false, List, [], ◌∷◌, zero, suc, length, Option, Some, None, Ok, Err, Result, arith, IsTrue}
+use Rattle.std.proofs.Common.{◌≡◌, ◌∙◌, refl, sym, ap, subst, inl, inr, ⊎_elim, ℕ, Bool, true, false, List, [], ◌∷◌, zero, suc, length, Option, Some, None, Ok, Err, Result, arith, IsTrue}
 use Rattle.std.specs.Borrow.{Bor}
 use Rattle.std.specs.List.{slice_get}
 use Rattle.std.specs.Option.{option_map, unwrap_or}
-use Rattle.std.specs.Prelude.{◌↔◌, IsSome}
+use Rattle.std.specs.Prelude.{◌↔◌, IsOk, IsSome}
 use Rattle.std.proofs.lemmas.Bool.{cases_lt}
 use Rattle.std.proofs.lemmas.List.{length-map, get_or_past}
 use Rattle.gpu_values.specs.Refusal.{Refusal, refusal_of}
@@ -27,6 +27,7 @@ use Rattle.gpu_pool.specs.Begin as pools
 use Rattle.gpu_pool.specs.Idle.{FreesIn, RenamesIn, RenamesIdle}
 use Rattle.gpu_pool.specs.RequestState.{RequestState}
 use Rattle.gpu_pool.specs.declared.requests.Awaited.{Awaited}
+use Rattle.gpu_pool.specs.declared.requests.Question.{Question}
 use Rattle.gpu_vulkan.specs.Free as allocators
 use Rattle.gpu_vulkan.specs.Free.{GivesBack}
 use Rattle.gpu_vulkan.specs.Live.{is_same_memory, piece_of}
@@ -38,15 +39,17 @@ use Rattle.gpu_vulkan.specs.declared.allocation.Allocation.{Allocation}
 use Rattle.gpu_vulkan.specs.declared.describe.AllocationCreateDesc.{AllocationCreateDesc}
 use Rattle.gpu_vulkan.specs.Allocate.{next_type}
 use Rattle.gpu_vulkan.specs.declared.preference.Preference.{Preference}
-use Rattle.gpu_machine.specs.VulkanBegin.{Follows, Declines, DeclinesIn, closed, GoesOnBy, GoesOnFor}
+use Rattle.gpu_machine.specs.VulkanBegin.{Follows, Declines, DeclinesIn, closed, GoesOnBy, TriesSmaller, IsDeniedSmaller, ShrinksTo, Shrinks}
 use Rattle.gpu_machine.specs.VulkanByFlags.{FollowsDown}
 use Rattle.gpu_machine.specs.VulkanDescription.{Description, description_of}
 use Rattle.gpu_machine.specs.VulkanCalls.{Frees, memory_in}
 use Rattle.gpu_machine.specs.VulkanHeapLimit.{Limits}
+use Rattle.gpu_machine.specs.VulkanSmallerBlocks.{smaller_portion}
 use Rattle.gpu_machine.specs.VulkanState.{State, IsOver, KeepsRequest}
 use Rattle.gpu_machine.specs.declared.vulkan.answer.MemoryBack.{MemoryBack}
 use Rattle.gpu_machine.specs.declared.vulkan.answer.Progress.{Progress}
 use Rattle.gpu_machine.specs.declared.vulkan.asking.Asking.{Asking}
+use Rattle.gpu_machine.specs.declared.vulkan.smaller_blocks.Portion.{Portion}
 
 -- there are as many memory types as the device has
 pub as_many : {H : Type 0} (setup : Setup) (requests : RequestState H) → IsOver setup requests → length requests.kinds ≡ length setup.properties.types
@@ -131,40 +134,69 @@ kept_awaited None (Some s) r k is = absurd k
 kept_awaited (Some a) None r k is = absurd k
 kept_awaited (Some a) (Some s) r k is = (a, refl)
 
+declined_in : {H : Type 0} (requests left : RequestState H) (o : Option Awaited) → pools.DeclinesIn o requests (Ok tt) left → left.slots ≡ requests.slots
+declined_in requests left None h = absurd (none_some _ h.0)
+declined_in {H} requests left (Some a) h = ap (λ (s : RequestState H). s.slots) h
+
+-- the blocks are as they were
+pub declined_keeps : {H : Type 0} (requests left : RequestState H) → pools.Declines requests (Ok tt) left → left.slots ≡ requests.slots
+declined_keeps requests left h = declined_in requests left requests.awaited h
+
 -- the description that says this, its name where that of d lies
 abbrev saying : AllocationCreateDesc → Description → AllocationCreateDesc
 saying d k = record { name = record d.name { now = k.name }; requirements = k.requirements; location = k.location; linear = k.linear; allocation_scheme = k.scheme }
 
-module _ {H : Type 0} (old : State H) (refusal : Refusal) (result : Result (Progress H) AllocationError) (new : State H) where
+module _ {H : Type 0} (old : State H) (result : Result (Progress H) AllocationError) (new : State H) where
   -- a description that says the same leads to the same
-  follows_alike : (d e : AllocationCreateDesc) → description_of d ≡ description_of e → Follows old d (next_type old.setup d refusal) refusal result new → Follows old e (next_type old.setup e refusal) refusal result new
-  follows_alike d e same h =
-      subst (λ (k : Description). Follows old (saying e k) (next_type old.setup (saying e k) refusal) refusal result new) same
-      h
+  follows_alike : (refusal : Refusal) (d e : AllocationCreateDesc) → description_of d ≡ description_of e → Follows old d (next_type old.setup d refusal) refusal result new
+      → Follows old e (next_type old.setup e refusal) refusal result new
+  follows_alike refusal d e same h = subst (λ (k : Description). Follows old (saying e k) (next_type old.setup (saying e k) refusal) refusal result new) same h
 
   -- and goes on so
-  goes_on_alike : (p : Option Preference) (is_second : Bool) (d e : AllocationCreateDesc) → description_of d ≡ description_of e → GoesOnBy p is_second old d refusal result new → GoesOnBy p is_second old e refusal result new
-  goes_on_alike None true d e same h = h
-  goes_on_alike None false d e same h = follows_alike d e same h
-  goes_on_alike (Some p) is_second d e same h = subst (λ (k : Description). FollowsDown p old k refusal result new) same h
+  goes_on_alike : (p : Option Preference) (is_second : Bool) (refusal : Refusal) (d e : AllocationCreateDesc) → description_of d ≡ description_of e → GoesOnBy p is_second old d refusal result new
+      → GoesOnBy p is_second old e refusal result new
+  goes_on_alike None true refusal d e same h = h
+  goes_on_alike None false refusal d e same h = follows_alike refusal d e same h
+  goes_on_alike (Some p) is_second refusal d e same h = subst (λ (k : Description). FollowsDown p old k refusal result new) same h
 
-module _ {H : Type 0} (setup : Setup) (limits : Limits) (most : Option ℕ) (requests : RequestState H) (asking : Option Asking) (kept : KeepsRequest requests.awaited asking) (r : Asking) (is : asking ≡ Some r) where
+  -- also by smaller blocks
+  shrinks_alike : (o : Option Portion) (r : Asking) (block : Question) (refusal : Refusal) (d e : AllocationCreateDesc) → description_of d ≡ description_of e
+      → ShrinksTo o r block old d refusal result new → ShrinksTo o r block old e refusal result new
+  shrinks_alike None r block refusal d e same h = goes_on_alike r.preference r.is_second refusal d e same h
+  shrinks_alike (Some p) r block refusal d e same h =
+      ⊎_elim (λ (tries : IsOk result × TriesSmaller r block p old result new). inl tries)
+      (λ (denied : IsDeniedSmaller r block p old d result new). inr (record {
+        cause = denied.cause;
+        tries = denied.tries;
+        follows = goes_on_alike r.preference r.is_second (refusal_of denied.cause) d e same denied.follows;
+      }))
+      h
+
+module _ {H : Type 0} (setup : Setup) (limits : Limits) (most : Option ℕ) (smaller_blocks : Bool) (requests : RequestState H) (asking : Option Asking) (kept : KeepsRequest requests.awaited asking) (r : Asking)
+    (is : asking ≡ Some r) where
   abbrev before : State H
-  before = record { setup = setup; limits = limits; most_blocks = most; requests = requests; asking = asking }
+  before = record { setup = setup; limits = limits; most_blocks = most; smaller_blocks = smaller_blocks; requests = requests; asking = asking }
 
   -- what is left of the request counts
-  pub goes_on : (left : RequestState H) → pools.Declines requests (Ok tt) left → (lent : AllocationCreateDesc) → description_of lent ≡ r.description → (refusal : Refusal)
-      → (result : Result (Progress H) AllocationError) (new : State H)
-      → GoesOnFor r (record { setup = setup; limits = limits; most_blocks = most; requests = left; asking = None }) lent refusal result new
+  pub goes_on : (left : RequestState H) → pools.Declines requests (Ok tt) left → (block : Question) → Some block ≡ option_map pools.question_of requests.awaited → (lent : AllocationCreateDesc)
+      → description_of lent ≡ r.description → (refusal : Refusal) → (result : Result (Progress H) AllocationError) (new : State H)
+      → Shrinks r block (record { setup = setup; limits = limits; most_blocks = most; smaller_blocks = smaller_blocks; requests = left; asking = None }) lent refusal result new
       → Declines before refusal result new
-  goes_on left over lent says refusal result new follows =
+  goes_on left over block asks lent says refusal result new follows =
       let a = kept_awaited requests.awaited asking r kept is in
       let closes : left ≡ record requests { awaited = None } = subst (λ (o : Option Awaited). pools.DeclinesIn o requests (Ok tt) left) a.1 over in
-      let idle : GoesOnFor r (closed before) lent refusal result new =
-      subst (λ (q : RequestState H). GoesOnFor r (record { setup = setup; limits = limits; most_blocks = most; requests = q; asking = None }) lent refusal result new) closes follows in
+      let asked : block ≡ pools.question_of a.0 = some_same _ _ (asks ∙ ap (λ (o : Option Awaited). option_map pools.question_of o) a.1) in
+      let idle : Shrinks r block (closed before) lent refusal result new =
+      subst (λ (q : RequestState H). Shrinks r block (record { setup = setup; limits = limits; most_blocks = most; smaller_blocks = smaller_blocks; requests = q; asking = None }) lent refusal result new) closes follows in
+      let of_it : Shrinks r (pools.question_of a.0) (closed before) lent refusal result new = subst (λ (b : Question). Shrinks r b (closed before) lent refusal result new) asked idle in
       subst (λ (o : Option Awaited). DeclinesIn o before refusal result new) (sym a.1) (
         r,
-        record { kept = is; follows = λ d same. goes_on_alike (closed before) refusal result new r.preference r.is_second lent d (says ∙ sym same) idle },
+        record {
+          kept = is;
+          follows = λ d same.
+              shrinks_alike (closed before) result new (smaller_portion smaller_blocks r.portion (pools.question_of a.0) r.description.requirements.size refusal) r (pools.question_of a.0) refusal lent d (says ∙ sym same)
+              of_it;
+        },
       )
 
 -- ---- a memory type that is lent

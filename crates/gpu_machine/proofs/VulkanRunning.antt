@@ -16,7 +16,7 @@ use Rattle.gpu_device.specs.declared.vulkan.types.DeviceMemory.{DeviceMemory}
 use Rattle.gpu_core.specs.Budgets.{Budgets}
 use Rattle.gpu_core.proofs.Options.{none_some, some_same}
 use Rattle.gpu_pool.specs.Begin as pools
-use Rattle.gpu_pool.specs.RequestState.{RequestState, pool_of}
+use Rattle.gpu_pool.specs.RequestState.{RequestState, pool_of, with_sizes}
 use Rattle.gpu_pool.specs.declared.requests.Awaited.{Awaited}
 use Rattle.gpu_pool.specs.declared.requests.Question as pool_questions
 use Rattle.gpu_pool.proofs.Agreeing as agreeing
@@ -33,12 +33,13 @@ use Rattle.gpu_vulkan.specs.Types.{is_mapped, heap_size, kinds_of_device}
 use Rattle.gpu_vulkan.specs.declared.allocation.Allocation.{Allocation}
 use Rattle.gpu_vulkan.specs.declared.describe.AllocationCreateDesc.{AllocationCreateDesc}
 use Rattle.gpu_vulkan.proofs.Attempts.{attempted}
-use Rattle.gpu_machine.specs.VulkanBegin.{request_in, IsTooLarge, IsWithinHeap, Tries, Follows, IsDenied, MakesAttempts, BeginsAt, BeginsBy, BeginsIn, Begins, GrantsIn, DeclinesIn, Receives, closed, next_for, asking_of, GoesOnFor}
-use Rattle.gpu_machine.specs.VulkanAttempt.{IsAboveLimit, is_forbidden}
+use Rattle.gpu_machine.specs.VulkanBegin.{request_in, IsTooLarge, IsWithinHeap, Tries, Follows, IsDenied, MakesAttempts, BeginsAt, BeginsBy, BeginsIn, Begins, GrantsIn, DeclinesIn, Receives, closed, next_for, asking_of, Shrinks}
+use Rattle.gpu_machine.specs.VulkanAttempt.{AttemptsWhole, IsAboveLimit, begun_in, is_forbidden}
+use Rattle.gpu_machine.specs.VulkanAttempt.Attempts.{tries_whole, tries_left}
 use Rattle.gpu_machine.specs.VulkanDescription.{description_of}
 use Rattle.gpu_machine.specs.VulkanHeapLimit.{Limits, HasNoLimits, limit_at, held_in, is_above, passes_of}
 use Rattle.gpu_machine.specs.VulkanRun.{State, Allocated, Progress, HearsGrant, Hears, IsAnswered, Finishes, Runs, Returns}
-use Rattle.gpu_machine.specs.VulkanState.{IsOver, IsUnlimited, IsRefused}
+use Rattle.gpu_machine.specs.VulkanState.{IsOver, AsksAsAllocator, IsRefused}
 use Rattle.gpu_machine.specs.declared.vulkan.answer.Question.{Question}
 use Rattle.gpu_machine.specs.declared.vulkan.answer.Progress.TheVariants as progress
 use Rattle.gpu_machine.specs.declared.vulkan.asking.Asking.{Asking}
@@ -89,7 +90,7 @@ module _ {D : Type 0} (g : Ghosts D) (setup : Setup) (budgets : Budgets) (limits
 
   -- the machine with these blocks, where no question is open
   abbrev at : Slots → State
-  at slots = record { setup = setup; limits = limits; most_blocks = None; requests = idle slots; asking = None }
+  at slots = record { setup = setup; limits = limits; most_blocks = None; smaller_blocks = false; requests = idle slots; asking = None }
 
   abbrev Outcome : Type 0
   Outcome = Result Allocation AllocationError
@@ -136,20 +137,30 @@ module _ {D : Type 0} (g : Ghosts D) (setup : Setup) (budgets : Budgets) (limits
 
   -- ---- attempts without a question
 
+  -- requests whose sizes are the setup's
+  resized : (r : RequestState DeviceMemory) → r.sizes ≡ setup.sizes → with_sizes setup.sizes r ≡ r
+  resized r is = λ i. record r { sizes = sym is i }
+
+  begins_plain : (is_second : Bool) (slots : Slots) (t : ℕ) (result : Result Progress AllocationError) (new : State) → IsWithinHeap (at slots) t d is_second result new
+      → pools.Begins (request_in t d) (idle slots) (begun_in result) new.requests
+  begins_plain is_second slots t result new h =
+      subst (λ (r : RequestState DeviceMemory). pools.Begins (request_in t d) (idle slots) (begun_in result) r) (resized new.requests h.sizes_stay) h.begins
+
   refused_in : (r : Refusal) (slots : Slots) (result : Result Progress AllocationError) (new : State) → IsRefused r (at slots) result new → (e : AllocationError) × (result ≡ Err e) × (refusal_of e ≡ r)
   refused_in r slots (Ok x) new h = absurd (none_some r h.0)
   refused_in r slots (Err e) new h = (e, refl, some_same _ _ h.0)
 
   taken : (is_second : Bool) (slots : Slots) (t : ℕ) (device : D) (a : Allocated) (new : State) → IsWithinHeap (at slots) t d is_second (Ok (progress.Piece a)) new → Ends slots t device (Ok a) new device
   taken is_second slots t device a new h =
-      let ends = agreeing.piece (AsksBlock g) t asked d.allocation_scheme (source device) (idle slots) refl a.piece new.requests h.begins in
-      let same : new.requests ≡ idle new.requests.slots = h.begins.1 in
+      let begins = begins_plain is_second slots t (Ok (progress.Piece a)) new h in
+      let ends = agreeing.piece (AsksBlock g) t asked d.allocation_scheme (source device) (idle slots) refl a.piece new.requests begins in
+      let same : new.requests ≡ idle new.requests.slots = begins.1 in
       record {
         attempted = returns_piece (λ result. Attempted slots t device result new.requests.slots device) a
             (λ allocation of_it.
             of_pool slots t device device (Ok a.piece) (Ok allocation) new.requests ends h.below
             (subst (λ (n : ℕ). IsAllocated setup n d a.piece allocation) h.tells.0 of_it));
-        same = h.state ∙ (λ i. record { setup = setup; limits = limits; most_blocks = None; requests = same i; asking = None });
+        same = h.state ∙ (λ i. record { setup = setup; limits = limits; most_blocks = None; smaller_blocks = false; requests = same i; asking = None });
       }
 
   -- no block is above a limit where there is none
@@ -175,29 +186,35 @@ module _ {D : Type 0} (g : Ghosts D) (setup : Setup) (budgets : Budgets) (limits
 
   denied_within : (is_second : Bool) (slots : Slots) (t : ℕ) (device : D) (e : AllocationError) (new : State) → IsWithinHeap (at slots) t d is_second (Err e) new → WasDenied slots t device e new
   denied_within is_second slots t device e new h =
-      let ends = agreeing.refused (AsksBlock g) t asked d.allocation_scheme (source device) (idle slots) refl e new.requests h.begins in
-      let same : new.requests ≡ idle slots = h.begins.1 in
+      let begins = begins_plain is_second slots t (Err e) new h in
+      let ends = agreeing.refused (AsksBlock g) t asked d.allocation_scheme (source device) (idle slots) refl e new.requests begins in
+      let same : new.requests ≡ idle slots = begins.1 in
       record {
         fails = λ f is.
             subst (λ (ss : Slots). Attempted slots t device (Err f) ss device) (ap (λ (r : RequestState DeviceMemory). r.slots) same)
             (of_pool slots t device device (Err (refusal_of e)) (Err f) new.requests ends h.below is);
-        same = h.state ∙ (λ i. record { setup = setup; limits = limits; most_blocks = None; requests = same i; asking = None });
+        same = h.state ∙ (λ i. record { setup = setup; limits = limits; most_blocks = None; smaller_blocks = false; requests = same i; asking = None });
       }
+
+  only : (is_second : Bool) (slots : Slots) (t : ℕ) (result : Result Progress AllocationError) (new : State) → Tries (at slots) t d is_second result new
+      → AttemptsWhole (at slots) t (description_of d) (asking_of d is_second) result new
+  only is_second slots t result new (tries_whole unlike whole) = whole
+  only is_second slots t result new (tries_left cause smaller bounded whole again) = absurd (grind (arith, smaller))
 
   denied : (is_second : Bool) (slots : Slots) (t : ℕ) (device : D) (e : AllocationError) (new : State) → Tries (at slots) t d is_second (Err e) new → WasDenied slots t device e new
   denied is_second slots t device e new h =
       ⊎_elim (λ (large : IsTooLarge (at slots) t d (Err e) new). denied_large slots t device e new large)
-      (λ rest. ⊎_elim (λ (above : IsAboveLimit (at slots) t (description_of d) (Err e) new). absurd (never_forbidden t slots above.question.size above.passes))
+      (λ rest. ⊎_elim (λ (above : IsAboveLimit setup.sizes (at slots) t (description_of d) (Err e) new). absurd (never_forbidden t slots above.question.size above.passes))
       (λ (within : IsWithinHeap (at slots) t d is_second (Err e) new). denied_within is_second slots t device e new within)
       rest)
-      h
+      (only is_second slots t (Err e) new h)
 
   -- an attempt that isn't refused is within its heap
   within_if : (is_second : Bool) (slots : Slots) (t : ℕ) (p : Progress) (new : State) → Tries (at slots) t d is_second (Ok p) new → IsWithinHeap (at slots) t d is_second (Ok p) new
   within_if is_second slots t p new h =
       ⊎_elim (λ (large : IsTooLarge (at slots) t d (Ok p) new). absurd (none_some _ large.refused.0))
-      (λ rest. ⊎_elim (λ (above : IsAboveLimit (at slots) t (description_of d) (Ok p) new). absurd (none_some _ above.refused.0)) (λ (within : IsWithinHeap (at slots) t d is_second (Ok p) new). within) rest)
-      h
+      (λ rest. ⊎_elim (λ (above : IsAboveLimit setup.sizes (at slots) t (description_of d) (Ok p) new). absurd (none_some _ above.refused.0)) (λ (within : IsWithinHeap (at slots) t d is_second (Ok p) new). within) rest)
+      (only is_second slots t (Ok p) new h)
 
   -- ---- attempts with a question
 
@@ -216,7 +233,7 @@ module _ {D : Type 0} (g : Ghosts D) (setup : Setup) (budgets : Budgets) (limits
   module _ (is_second : Bool) (slots : Slots) (t : ℕ) (q : Question) (mid : State) (w : IsWithinHeap (at slots) t d is_second (Ok (progress.Question q)) mid) (device between : D) (heard : Result Progress AllocationError)
       (next : State) where
     abbrev asks : pools.Asks (request_in t d) (idle slots) q.block mid.requests
-    asks = w.begins
+    asks = begins_plain is_second slots t (Ok (progress.Question q)) mid w
 
     abbrev awaited : Awaited
     awaited = record { memory_type = t; need = asks.need }
@@ -235,6 +252,9 @@ module _ {D : Type 0} (g : Ghosts D) (setup : Setup) (budgets : Budgets) (limits
 
     most_is : mid.most_blocks ≡ None
     most_is = ap (λ (s : State). s.most_blocks) w.state
+
+    shrinks_not : mid.smaller_blocks ≡ false
+    shrinks_not = ap (λ (s : State). s.smaller_blocks) w.state
 
     abbrev Answers : BlockAnswer → Type 0
     Answers answer = device_answers.Asks g device (question mid.setup q.block.memory_type q.block.size d.allocation_scheme) q.mapped answer between
@@ -264,18 +284,19 @@ module _ {D : Type 0} (g : Ghosts D) (setup : Setup) (budgets : Budgets) (limits
         let received : pools.Grants mid.requests (memory_of number) (Ok given.piece) next.requests =
         subst (λ (o : Option Awaited). pools.GrantsIn o mid.requests (memory_of number) (Ok given.piece) next.requests)
         (sym (ap (λ (s : RequestState DeviceMemory). s.awaited) waiting)) r.receives in
-        let ends = agreeing.granted (AsksBlock g) t asked d.allocation_scheme (source device) (idle slots) refl q.block mid.requests w.begins (source_after device between) (memory_of number)
+        let ends = agreeing.granted (AsksBlock g) t asked d.allocation_scheme (source device) (idle slots) refl q.block mid.requests asks (source_after device between) (memory_of number)
         (Ok given.piece) next.requests (as_source answer (Ok (memory_of number)) is a) received in
         let mid_setup = setup_is in
         let mid_limits = limits_are in
         let mid_most = most_is in
+        let mid_shrinks = shrinks_not in
         let left : next.requests ≡ idle next.requests.slots = r.receives.state ∙ ap (λ (s : RequestState DeviceMemory). record s { slots = next.requests.slots; awaited = None }) waiting in
         record {
           attempted = returns_piece (λ result. Attempted slots t device result next.requests.slots between) given
               (λ allocation of_it.
               of_pool slots t device between (Ok given.piece) (Ok allocation) next.requests ends w.below
               (subst (λ (n : ℕ). IsAllocated setup n d given.piece allocation) r.memory_type of_it));
-          same = r.state ∙ (λ i. record { setup = mid_setup i; limits = mid_limits i; most_blocks = mid_most i; requests = left i; asking = None });
+          same = r.state ∙ (λ i. record { setup = mid_setup i; limits = mid_limits i; most_blocks = mid_most i; smaller_blocks = mid_shrinks i; requests = left i; asking = None });
         }
 
     hears_grant : (number : ℕ) (answer : BlockAnswer) → answer_number answer ≡ Some number → Answers answer → HearsGrant mid number heard next → WasGranted slots t device heard next between
@@ -294,21 +315,19 @@ module _ {D : Type 0} (g : Ghosts D) (setup : Setup) (budgets : Budgets) (limits
         let emptied : record mid.requests { awaited = None } ≡ idle slots = ap (λ (s : RequestState DeviceMemory). record s { awaited = None }) waiting in
         let over : pools.Declines mid.requests (Ok tt) (record mid.requests { awaited = None }) =
         subst (λ (o : Option Awaited). pools.DeclinesIn o mid.requests (Ok tt) (record mid.requests { awaited = None })) (sym (ap (λ (s : RequestState DeviceMemory). s.awaited) waiting)) refl in
-        let ends = agreeing.declined (AsksBlock g) t asked d.allocation_scheme (source device) (idle slots) refl q.block mid.requests w.begins (source_after device between) why (Ok tt)
+        let ends = agreeing.declined (AsksBlock g) t asked d.allocation_scheme (source device) (idle slots) refl q.block mid.requests asks (source_after device between) why (Ok tt)
         (record mid.requests { awaited = None }) (as_source answer (Err why) is a) over in
-        let back : closed mid ≡ at slots = λ i. record { setup = setup_is i; limits = limits_are i; most_blocks = most_is i; requests = emptied i; asking = None } in
+        let back : closed mid ≡ at slots = λ i. record { setup = setup_is i; limits = limits_are i; most_blocks = most_is i; smaller_blocks = shrinks_not i; requests = emptied i; asking = None } in
         let same_kept : kept ≡ goes.0 = some_same _ _ (sym (ap (λ (s : State). s.asking) w.state) ∙ goes.1.kept) in
         let described : description_of d ≡ goes.0.description = ap (λ (r : Asking). r.description) same_kept in
-        let follows : Follows (closed mid) d (next_for mid.setup is_second d why) why heard next =
-        subst (λ (r : Asking). GoesOnFor r (closed mid) d why heard next) (sym same_kept) (goes.1.follows d described) in
+        let block = pools.question_of awaited in
+        let smaller_blocks : Shrinks kept block (closed mid) d why heard next = subst (λ (r : Asking). Shrinks r block (closed mid) d why heard next) (sym same_kept) (goes.1.follows d described) in
         record {
           why = why;
           fails = λ f told.
               subst (λ (ss : Slots). Attempted slots t device (Err f) ss between) (ap (λ (s : RequestState DeviceMemory). s.slots) emptied)
               (of_pool slots t device between (Err why) (Err f) (record mid.requests { awaited = None }) ends w.below told);
-          follows =
-              subst (λ (s : State). Follows s d (next_for setup is_second d why) why heard next) back
-              (subst (λ (s : Setup). Follows (closed mid) d (next_for s is_second d why) why heard next) setup_is follows);
+          follows = subst (λ (s : State). Shrinks kept block s d why heard next) back smaller_blocks;
         }
 
     answered_by : (answer : BlockAnswer) → Answers answer → Hears mid answer heard next → IsAnswered_
@@ -475,15 +494,16 @@ module _ {D : Type 0} (g : Ghosts D) (setup : Setup) (budgets : Budgets) (limits
   valid true slots device n first mid told result new after h fin returns = found _ slots device n first mid told result new after h fin returns
 
 -- a machine where no question is open
-module _ {D : Type 0} (g : Ghosts D) (d : AllocationCreateDesc) (old : State) (over : IsOver old.setup old.requests) (unlimited : IsUnlimited old) (shut : old.requests.awaited ≡ None) (free : old.asking ≡ None) where
+module _ {D : Type 0} (g : Ghosts D) (d : AllocationCreateDesc) (old : State) (over : IsOver old.setup old.requests) (plain : AsksAsAllocator old) (shut : old.requests.awaited ≡ None) (free : old.asking ≡ None) where
   abbrev same_at : State
-  same_at = at g old.setup old.requests.budgets old.limits unlimited.heaps d old.requests.slots
+  same_at = at g old.setup old.requests.budgets old.limits plain.heaps d old.requests.slots
 
   is_idle : old ≡ same_at
   is_idle = λ i. record {
     setup = old.setup;
     limits = old.limits;
-    most_blocks = unlimited.blocks i;
+    most_blocks = plain.blocks i;
+    smaller_blocks = plain.sizes i;
     requests = record { kinds = over.kinds i; sizes = over.sizes i; slots = old.requests.slots; budgets = old.requests.budgets; awaited = shut i };
     asking = free i;
   }
@@ -495,101 +515,5 @@ module _ {D : Type 0} (g : Ghosts D) (d : AllocationCreateDesc) (old : State) (o
   pub allocates : (n : ℕ) (new : State) (device after : D) (told : Result Allocated AllocationError) (result : Result Allocation AllocationError) → Runs g d n old device told new after → Returns old.setup d told result
       → Allocates g old.setup old.requests.budgets d old.requests.slots device result new.requests.slots after × (new ≡ record old { requests = record old.requests { slots = new.requests.slots } })
   allocates n new device after told result runs returns =
-      let all = valid g old.setup old.requests.budgets old.limits unlimited.heaps d (is_valid d) old.requests.slots device n runs.first runs.mid told result new after (begun runs.first runs.mid runs.begins) runs.finishes returns in
+      let all = valid g old.setup old.requests.budgets old.limits plain.heaps d (is_valid d) old.requests.slots device n runs.first runs.mid told result new after (begun runs.first runs.mid runs.begins) runs.finishes returns in
       (all.0, all.1 ∙ ap (λ (s : State). record s { requests = record s.requests { slots = new.requests.slots } }) (sym is_idle))
-
--- ---- at most two questions
-
-module _ {D : Type 0} (g : Ghosts D) (setup : Setup) (budgets : Budgets) (limits : Limits) (none : HasNoLimits limits) (d : AllocationCreateDesc) where
-  -- what isn't a question needs none
-  settled : (n m : ℕ) (mid : State) (device : D) (heard : Result Progress AllocationError) (e : AllocationError) (told : Result Allocated AllocationError) (new : State) (after : D) → heard ≡ Err e
-      → Finishes g d n mid device heard told new after → Finishes g d m mid device heard told new after
-  settled n m mid device heard e told new after is fin =
-      let end : Finishes g d n mid device (Err e) told new after = subst (λ (x : Result Progress AllocationError). Finishes g d n mid device x told new after) is fin in
-      subst (λ (x : Result Progress AllocationError). Finishes g d m mid device x told new after) (sym is) end
-
-  had : (n m : ℕ) (mid : State) (device : D) (heard : Result Progress AllocationError) (a : Allocated) (told : Result Allocated AllocationError) (new : State) (after : D) → heard ≡ Ok (progress.Piece a)
-      → Finishes g d n mid device heard told new after → Finishes g d m mid device heard told new after
-  had n m mid device heard a told new after is fin =
-      let end : Finishes g d n mid device (Ok (progress.Piece a)) told new after = subst (λ (x : Result Progress AllocationError). Finishes g d n mid device x told new after) is fin in
-      subst (λ (x : Result Progress AllocationError). Finishes g d m mid device x told new after) (sym is) end
-
-  -- after the answer to the second attempt's question
-  none_left : (slots : Slots) (t : ℕ) (first : D) (n m : ℕ) (heard : Result Progress AllocationError) (next : State) (between : D) (told : Result Allocated AllocationError) (new : State) (after : D)
-      → WasGranted g setup budgets limits none d slots t first heard next between ⊎ WasDeclined g setup budgets limits none d true slots t first heard next between
-      → Finishes g d n next between heard told new after → Finishes g d m next between heard told new after
-  none_left slots t first n m heard next between told new after h fin =
-      ⊎_elim
-      (λ (w : WasGranted g setup budgets limits none d slots t first heard next between). had n m next between heard w.piece told new after w.is fin)
-      (λ (w : WasDeclined g setup budgets limits none d true slots t first heard next between).
-      let e = refused_in g setup budgets limits none d w.why slots heard next w.follows in
-      settled n m next between heard e.0 told new after e.1 fin)
-      h
-
-  -- from the second attempt on
-  one_left : (slots : Slots) (t : ℕ) (device : D) (n m : ℕ) (heard : Result Progress AllocationError) (mid : State) (told : Result Allocated AllocationError) (new : State) (after : D)
-      → Tries (at g setup budgets limits none d slots) t d true heard mid → Finishes g d n mid device heard told new after → Finishes g d (suc m) mid device heard told new after
-  one_left slots t device n m (Err e) mid told new after h fin = fin
-  one_left slots t device n m (Ok (progress.Piece a)) mid told new after h fin = fin
-  one_left slots t device zero m (Ok (progress.Question q)) mid told new after h fin = absurd fin
-  one_left slots t device (suc n) m (Ok (progress.Question q)) mid told new after h fin = (
-    fin.0,
-    fin.1,
-    fin.2,
-    fin.3,
-    none_left slots t device n m fin.0 fin.1 fin.2 told new after (answered g setup budgets limits none d true slots t q mid device fin.2 fin.0 fin.1 (within_if g setup budgets limits none d true slots t (progress.Question q) mid h) fin.3) fin.4,
-  )
-
-  one_follows : (slots : Slots) (o : Option ℕ) (r : Refusal) (device : D) (n m : ℕ) (heard : Result Progress AllocationError) (mid : State) (told : Result Allocated AllocationError) (new : State) (after : D)
-      → Follows (at g setup budgets limits none d slots) d o r heard mid → Finishes g d n mid device heard told new after → Finishes g d (suc m) mid device heard told new after
-  one_follows slots None r device n m heard mid told new after h fin =
-      let e = refused_in g setup budgets limits none d r slots heard mid h in
-      settled n (suc m) mid device heard e.0 told new after e.1 fin
-  one_follows slots (Some t) r device n m heard mid told new after h fin = one_left slots t device n m heard mid told new after h fin
-
-  -- from the first attempt on
-  two_left : (slots : Slots) (t : ℕ) (device : D) (n : ℕ) (heard : Result Progress AllocationError) (mid : State) (told : Result Allocated AllocationError) (new : State) (after : D)
-      → Tries (at g setup budgets limits none d slots) t d false heard mid → Finishes g d n mid device heard told new after → Finishes g d 2 mid device heard told new after
-  two_left slots t device n (Err e) mid told new after h fin = fin
-  two_left slots t device n (Ok (progress.Piece a)) mid told new after h fin = fin
-  two_left slots t device zero (Ok (progress.Question q)) mid told new after h fin = absurd fin
-  two_left slots t device (suc n) (Ok (progress.Question q)) mid told new after h fin = (
-    fin.0,
-    fin.1,
-    fin.2,
-    fin.3,
-    ⊎_elim
-        (λ (w : WasGranted g setup budgets limits none d slots t device fin.0 fin.1 fin.2). had n 1 fin.1 fin.2 fin.0 w.piece told new after w.is fin.4)
-        (λ (w : WasDeclined g setup budgets limits none d false slots t device fin.0 fin.1 fin.2).
-        one_follows slots (next_type setup d w.why) w.why fin.2 n 0 fin.0 fin.1 told new after w.follows fin.4)
-        (answered g setup budgets limits none d false slots t q mid device fin.2 fin.0 fin.1 (within_if g setup budgets limits none d false slots t (progress.Question q) mid h) fin.3),
-  )
-
-  two_found : (slots : Slots) (o : Option ℕ) (device : D) (n : ℕ) (heard : Result Progress AllocationError) (mid : State) (told : Result Allocated AllocationError) (new : State) (after : D)
-      → BeginsAt o (at g setup budgets limits none d slots) d heard mid → Finishes g d n mid device heard told new after → Finishes g d 2 mid device heard told new after
-  two_found slots None device n heard mid told new after h fin =
-      let e = refused_in g setup budgets limits none d no_compatible_memory_type_found slots heard mid h in
-      settled n 2 mid device heard e.0 told new after e.1 fin
-  two_found slots (Some t) device n heard mid told new after h fin =
-      ⊎_elim
-      (λ (s : IsOk heard × Tries (at g setup budgets limits none d slots) t d false heard mid). two_left slots t device n heard mid told new after s.1 fin)
-      (λ (s : IsDenied (at g setup budgets limits none d slots) t d heard mid).
-      one_follows slots (next_type setup d (refusal_of s.cause)) (refusal_of s.cause) device n 1 heard mid told new after s.follows fin)
-      h
-
-  two_begun : (slots : Slots) (b : Bool) (device : D) (n : ℕ) (heard : Result Progress AllocationError) (mid : State) (told : Result Allocated AllocationError) (new : State) (after : D)
-      → BeginsBy b (at g setup budgets limits none d slots) d heard mid → Finishes g d n mid device heard told new after → Finishes g d 2 mid device heard told new after
-  two_begun slots false device n heard mid told new after h fin =
-      let e = refused_in g setup budgets limits none d invalid_allocation_create_desc slots heard mid h in
-      settled n 2 mid device heard e.0 told new after e.1 fin
-  two_begun slots true device n heard mid told new after h fin = two_found slots _ device n heard mid told new after h fin
-
--- a request asks at most two questions
-pub asks_twice : {D : Type 0} (g : Ghosts D) (n : ℕ) (old new : State) (d : AllocationCreateDesc) (device after : D) (told : Result Allocated AllocationError)
-    → IsOver old.setup old.requests → IsUnlimited old → old.requests.awaited ≡ None → old.asking ≡ None → Runs g d n old device told new after → Runs g d 2 old device told new after
-asks_twice g n old new d device after told over unlimited shut free runs = record {
-  first = runs.first;
-  mid = runs.mid;
-  begins = runs.begins;
-  finishes = two_begun g old.setup old.requests.budgets old.limits unlimited.heaps d old.requests.slots (is_valid d) device n runs.first runs.mid told new after (begun g d old over unlimited shut free runs.first runs.mid runs.begins) runs.finishes;
-}

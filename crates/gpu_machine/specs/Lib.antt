@@ -2,6 +2,8 @@ pub mod VulkanDescription
 pub mod VulkanHeapLimit
 pub mod VulkanBlockCount
 pub mod VulkanState
+pub mod VulkanRoom
+pub mod VulkanSmallerBlocks
 pub mod VulkanAsking
 pub mod VulkanAttempt
 pub mod VulkanByFlags

@@ -6,6 +6,7 @@ use Rattle.gpu_pool.specs.Allocate.{RequestAt}
 use Rattle.gpu_pool.specs.Begin as pools
 use Rattle.gpu_pool.specs.RequestState.{answer_awaited, no_answer_awaited}
 use Rattle.gpu_pool.specs.declared.requests.Awaited.{Awaited}
+use Rattle.gpu_pool.specs.declared.requests.Question.{Question}
 use Rattle.gpu_vulkan.specs.Allocate.{next_type, is_valid}
 use Rattle.gpu_vulkan.specs.Choice.{best_type}
 use Rattle.gpu_vulkan.specs.Describe.{requests_dedicated, request_of}
@@ -13,13 +14,16 @@ use Rattle.gpu_vulkan.specs.Setup.{Setup}
 use Rattle.gpu_vulkan.specs.Types.{is_mapped}
 use Rattle.gpu_vulkan.specs.declared.describe.AllocationCreateDesc.{AllocationCreateDesc}
 use Rattle.gpu_vulkan.specs.declared.preference.Preference.{Preference}
-use Rattle.gpu_machine.specs.VulkanAttempt.{Attempts, IsAboveHeap, BeginsWithinHeap}
+use Rattle.gpu_machine.specs.VulkanAttempt.{Attempts, AttemptsSized, IsAboveHeap, BeginsWithinHeap}
 use Rattle.gpu_machine.specs.VulkanByFlags.{FollowsDown}
 use Rattle.gpu_machine.specs.VulkanDescription.{description_of}
+use Rattle.gpu_machine.specs.VulkanSmallerBlocks.{sizes_in, smaller_sizes, smaller_portion}
 use Rattle.gpu_machine.specs.VulkanState.{State, IsRefused}
 use Rattle.gpu_machine.specs.declared.vulkan.answer.Allocated.{Allocated}
 use Rattle.gpu_machine.specs.declared.vulkan.answer.Progress.{Progress}
 use Rattle.gpu_machine.specs.declared.vulkan.asking.Asking.{Asking}
+use Rattle.gpu_machine.specs.declared.vulkan.smaller_blocks.Portion.{Portion}
+use Rattle.gpu_machine.specs.declared.vulkan.smaller_blocks.Portion.TheVariants as portion
 
 -- ---- one attempt
 
@@ -29,7 +33,7 @@ request_in t d = record { memory_type = t; requested_dedicated = requests_dedica
 
 -- what is kept of the request where its question is open
 abbrev pub asking_of : AllocationCreateDesc → (is_second : Bool) → Asking
-asking_of d is_second = record { description = description_of d; is_second = is_second; preference = None }
+asking_of d is_second = record { description = description_of d; is_second = is_second; preference = None; portion = portion.Whole }
 
 -- the memory type that is asked after a refusal of the awaited block: none after the second attempt
 abbrev pub next_for : Setup → (is_second : Bool) → AllocationCreateDesc → Refusal → Option ℕ
@@ -42,7 +46,7 @@ module _ {H : Type 0} where
 
   -- the request is within its heap, and its memory type allocates a piece, asks, or refuses it
   abbrev pub IsWithinHeap : State H → (t : ℕ) → AllocationCreateDesc → (is_second : Bool) → Result (Progress H) AllocationError → State H → Type 0
-  IsWithinHeap old t d is_second result new = BeginsWithinHeap old t (description_of d) (asking_of d is_second) result new
+  IsWithinHeap old t d is_second result new = BeginsWithinHeap (sizes_in old t) old t (description_of d) (asking_of d is_second) result new
 
   -- an attempt at the t-th memory type, up to its question
   abbrev pub Tries : State H → (t : ℕ) → AllocationCreateDesc → (is_second : Bool) → Result (Progress H) AllocationError → State H → Type 0
@@ -113,14 +117,32 @@ module _ {H : Type 0} where
   abbrev pub GoesOnFor : Asking → State H → AllocationCreateDesc → Refusal → Result (Progress H) AllocationError → State H → Type 0
   GoesOnFor r old d refusal result new = GoesOnBy r.preference r.is_second old d refusal result new
 
+  -- an attempt by a smaller block than the one that was refused, of the same memory type
+  abbrev pub TriesSmaller : Asking → Question → Portion → State H → Result (Progress H) AllocationError → State H → Type 0
+  TriesSmaller r block p old result new = AttemptsSized (smaller_sizes old block) old block.memory_type r.description (record r { portion = p }) result new
+
+  -- the smaller block isn't asked for, and what is left of the request counts
+  pub record IsDeniedSmaller (r : Asking) (block : Question) (p : Portion) (old : State H) (d : AllocationCreateDesc) (result : Result (Progress H) AllocationError) (new : State H) : Type 0 where
+    pub cause : AllocationError
+    pub tries : TriesSmaller r block p old (Err cause) old
+    pub follows : GoesOnFor r old d (refusal_of cause) result new
+
+  -- a smaller block counts, where one is to be tried
+  abbrev pub ShrinksTo : Option Portion → Asking → Question → State H → AllocationCreateDesc → Refusal → Result (Progress H) AllocationError → State H → Type 0
+  ShrinksTo None r block old d refusal result new = GoesOnFor r old d refusal result new
+  ShrinksTo (Some p) r block old d refusal result new = (IsOk result × TriesSmaller r block p old result new) ⊎ IsDeniedSmaller r block p old d result new
+
+  abbrev pub Shrinks : Asking → Question → State H → AllocationCreateDesc → Refusal → Result (Progress H) AllocationError → State H → Type 0
+  Shrinks r block old d refusal result new = ShrinksTo (smaller_portion old.smaller_blocks r.portion block r.description.requirements.size refusal) r block old d refusal result new
+
   -- the same of each description that says what the kept one does
-  pub record GoesOn (r : Asking) (old : State H) (refusal : Refusal) (result : Result (Progress H) AllocationError) (new : State H) : Type 0 where
+  pub record GoesOn (r : Asking) (block : Question) (old : State H) (refusal : Refusal) (result : Result (Progress H) AllocationError) (new : State H) : Type 0 where
     pub kept : old.asking ≡ Some r
-    pub follows : (d : AllocationCreateDesc) → description_of d ≡ r.description → GoesOnFor r (closed old) d refusal result new
+    pub follows : (d : AllocationCreateDesc) → description_of d ≡ r.description → Shrinks r block (closed old) d refusal result new
 
   abbrev pub DeclinesIn : Option Awaited → State H → Refusal → Result (Progress H) AllocationError → State H → Type 0
   DeclinesIn None old refusal result new = IsRefused no_answer_awaited old result new
-  DeclinesIn (Some a) old refusal result new = (r : Asking) × GoesOn r old refusal result new
+  DeclinesIn (Some a) old refusal result new = (r : Asking) × GoesOn r (pools.question_of a) old refusal result new
 
   -- the driver refused the memory or its mapping for this cause
   abbrev pub Declines : State H → Refusal → Result (Progress H) AllocationError → State H → Type 0

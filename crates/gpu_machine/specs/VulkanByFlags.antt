@@ -1,8 +1,6 @@
 -- A request by flags: the cheapest memory type that serves is tried first, then the others, while one lacks room.
 use Rattle.std.specs.Prelude.{◌≡◌, ℕ, Bool, true, false, Option, Some, None, Result, Ok, Err}
-use Rattle.gpu_values.specs.Refusal.{Refusal, refusal_of, out_of_memory, failed_to_map, no_compatible_memory_type_found, invalid_allocation_create_desc, invalid_allocator_create_desc}
-use Rattle.gpu_values.specs.Refusal.{internal, barrier_layout_needs_device10, castable_formats_requires_enhanced_barriers, castable_formats_requires_at_least_device12, host_out_of_memory}
-use Rattle.gpu_values.specs.Refusal.{budget_exceeded}
+use Rattle.gpu_values.specs.Refusal.{Refusal, refusal_of, no_compatible_memory_type_found, invalid_allocation_create_desc}
 use Rattle.gpu_values.specs.declared.error.AllocationError.{AllocationError}
 use Rattle.gpu_pool.specs.RequestState.{answer_awaited}
 use Rattle.gpu_pool.specs.declared.requests.Awaited.{Awaited}
@@ -12,27 +10,15 @@ use Rattle.gpu_vulkan.specs.declared.describe.AllocationCreateDesc.{AllocationCr
 use Rattle.gpu_vulkan.specs.declared.preference.Preference.{Preference}
 use Rattle.gpu_machine.specs.VulkanAttempt.{Attempts, Places}
 use Rattle.gpu_machine.specs.VulkanDescription.{Description, description_of, without}
+use Rattle.gpu_machine.specs.VulkanRoom.{lacks_room}
 use Rattle.gpu_machine.specs.VulkanState.{State, IsRefused}
 use Rattle.gpu_machine.specs.declared.vulkan.answer.Progress.{Progress}
 use Rattle.gpu_machine.specs.declared.vulkan.asking.Asking.{Asking}
+use Rattle.gpu_machine.specs.declared.vulkan.smaller_blocks.Portion.TheVariants as portion
 
 -- what is kept while the t-th memory type's block is awaited: the request for the others
 abbrev pub asking_by_flags : Preference → (t : ℕ) → Description → Asking
-asking_by_flags p t k = record { description = without t k; is_second = false; preference = Some p }
-
--- the memory type, its budget or its heap has no room: another one may have
-abbrev pub lacks_room : Refusal → Bool
-lacks_room out_of_memory = true
-lacks_room budget_exceeded = true
-lacks_room host_out_of_memory = false
-lacks_room (failed_to_map text code) = false
-lacks_room no_compatible_memory_type_found = false
-lacks_room invalid_allocation_create_desc = false
-lacks_room (invalid_allocator_create_desc text code) = false
-lacks_room (internal text code) = false
-lacks_room barrier_layout_needs_device10 = false
-lacks_room castable_formats_requires_enhanced_barriers = false
-lacks_room castable_formats_requires_at_least_device12 = false
+asking_by_flags p t k = record { description = without t k; is_second = false; preference = Some p; portion = portion.Whole }
 
 -- the answer isn't for lack of room
 abbrev pub IsSettled : {H : Type 0} → Result (Progress H) AllocationError → Type 0

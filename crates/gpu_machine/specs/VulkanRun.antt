@@ -1,5 +1,5 @@
 -- A request from its beginning to its end: its questions are asked of a device, and the machine is told the answers.
-use Rattle.std.specs.Prelude.{◌≡◌, ℕ, zero, suc, Result, Ok, Err}
+use Rattle.std.specs.Prelude.{◌≡◌, ℕ, zero, suc, Bool, if◌then◌else◌, Result, Ok, Err}
 use Rattle.gpu_values.specs.Refusal.{refusal_of}
 use Rattle.gpu_values.specs.declared.error.AllocationError.{AllocationError}
 use Rattle.gpu_device.specs.declared.vulkan.device.VulkanDevice.{Ghosts}
@@ -62,6 +62,10 @@ module _ {D : Type 0} (g : Ghosts D) (d : AllocationCreateDesc) where
     pub mid : State
     pub begins : Begins old d first mid
     pub finishes : Finishes questions mid device first told new after
+
+-- how many questions a request by a location asks at most: one for each of two memory types, or three, where blocks shrink
+abbrev pub most_questions : (smaller_blocks : Bool) → ℕ
+most_questions smaller_blocks = if smaller_blocks then 6 else 2
 
 -- what an allocator returns is what the machine told
 abbrev pub Returns : Setup → AllocationCreateDesc → Result Allocated AllocationError → Result Allocation AllocationError → Type 0

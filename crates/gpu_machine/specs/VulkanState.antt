@@ -1,5 +1,5 @@
 -- What callers see of Vulkan's machine.
-use Rattle.std.specs.Prelude.{◌≡◌, ℕ, Option, Some, None, Result}
+use Rattle.std.specs.Prelude.{◌≡◌, ℕ, Bool, false, Option, Some, None, Result}
 use Rattle.gpu_values.specs.Refusal.{Refusal, refusal_in}
 use Rattle.gpu_values.specs.declared.error.AllocationError.{AllocationError}
 use Rattle.gpu_device.specs.Properties.{Properties}
@@ -11,12 +11,13 @@ use Rattle.gpu_machine.specs.VulkanDescription.{IsWellFormed}
 use Rattle.gpu_machine.specs.VulkanHeapLimit.{Limits, HasNoLimits}
 use Rattle.gpu_machine.specs.declared.vulkan.asking.Asking.{Asking}
 
--- what the machine is made with, the limits of heaps and how many blocks there may be, the blocks with their pieces and budgets, and the request
--- whose question is open
+-- what the machine is made with, the limits of heaps and how many blocks there may be, whether blocks shrink, the blocks with their pieces and
+-- budgets, and the request whose question is open
 pub record State (H : Type 0) : Type 0 where
   pub setup : Setup
   pub limits : Limits
   pub most_blocks : Option ℕ
+  pub smaller_blocks : Bool
   pub requests : RequestState H
   pub asking : Option Asking
 
@@ -40,7 +41,8 @@ told_fault p = setup_fault 1 p
 abbrev pub IsRefused : {H A : Type 0} → Refusal → State H → Result A AllocationError → State H → Type 0
 IsRefused refusal old result new = (refusal_in result ≡ Some refusal) × (new ≡ old)
 
--- neither heaps nor blocks are bounded
-pub record IsUnlimited {H : Type 0} (s : State H) : Type 0 where
+-- what is asked for is what the allocator asks for: neither heaps nor the number of blocks are bounded, and blocks never shrink
+pub record AsksAsAllocator {H : Type 0} (s : State H) : Type 0 where
   pub heaps : HasNoLimits s.limits
   pub blocks : s.most_blocks ≡ None
+  pub sizes : s.smaller_blocks ≡ false

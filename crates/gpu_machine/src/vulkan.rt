@@ -8,6 +8,7 @@ mod heap_limit;
 pub mod laws;
 mod machine;
 mod refusal;
+mod smaller_blocks;
 mod told;
 
 pub use answer::{Allocated, LiveBlock, MemoryBack, Progress, Question};

@@ -2,9 +2,10 @@
 
 ghost use Rattle.std.specs.Prelude.{◌≡◌, ◌+◌, nat_lt, IfOk, length};
 ghost use Rattle.gpu_core.specs.Blocks.{slots_at};
+ghost use Rattle.gpu_core.specs.Budgets.{budget_at, budgets};
 ghost use Rattle.gpu_core.specs.TypeState.{capacity_of};
 ghost use Rattle.gpu_core.specs.Types.{slots_of};
-ghost use Rattle.gpu_machine.specs.VulkanHeapLimit.{HasNoLimits, limit_at, held_in, passes_limit};
+ghost use Rattle.gpu_machine.specs.VulkanHeapLimit.{HasNoLimits, limit_at, held_in, left_of, within, within_limit, passes_limit};
 
 use gpu_core::MemoryTypes;
 use gpu_device::vulkan::MemoryTypeInfo;
@@ -42,6 +43,30 @@ fn capacity_at<H: Copy + Eq>(types: &MemoryTypes<H>, index: usize) -> u64
     }
 }
 
+/// What a heap's blocks leave of its limit, of all the heap's memory types; `None` where they are above it.
+fn left_of<H: Copy + Eq>(
+    types: &MemoryTypes<H>,
+    infos: &[MemoryTypeInfo],
+    heap: u32,
+    limit: u64,
+) -> Option<u64>
+    ensures { result ≡ left_of limit (held_in infos.now heap (slots_of types.now)) }
+{
+    let mut left = limit;
+    let mut index = 0;
+    for info in infos {
+        if info.heap_index == heap {
+            let held = capacity_at(types, index);
+            if held > left {
+                return None;
+            }
+            left -= held;
+        }
+        index += 1;
+    }
+    Some(left)
+}
+
 /// Whether a block of that size would be above a heap's limit, beside those of the heap's memory types.
 fn is_above<H: Copy + Eq>(
     types: &MemoryTypes<H>,
@@ -52,19 +77,43 @@ fn is_above<H: Copy + Eq>(
 ) -> bool
     ensures { result ≡ nat_lt limit (held_in infos.now heap (slots_of types.now) + size) }
 {
-    let mut left = limit;
-    let mut index = 0;
-    for info in infos {
-        if info.heap_index == heap {
-            let held = capacity_at(types, index);
-            if held > left {
-                return true;
-            }
-            left -= held;
-        }
-        index += 1;
+    match left_of(types, infos, heap, limit) {
+        None => true,
+        Some(left) => size > left,
     }
-    size > left
+}
+
+/// Of `most` bytes those that the limit of the heap of the memory type at `index` leaves.
+pub fn within_limit<H: Copy + Eq>(
+    types: &MemoryTypes<H>,
+    infos: &[MemoryTypeInfo],
+    limits: &[Option<u64>],
+    index: usize,
+    most: u64,
+) -> u64
+    ensures { result ≡ within_limit infos.now limits.now (slots_of types.now) index most }
+{
+    let Some(info) = infos.get(index) else {
+        return most;
+    };
+    let Some(limit) = limit_at(limits, info.heap_index as usize) else {
+        return most;
+    };
+    match left_of(types, infos, info.heap_index, limit) {
+        None => 0,
+        Some(left) => most.min(left),
+    }
+}
+
+/// Of `most` bytes those that the budget of the memory type at `index` leaves.
+pub fn within_budget<H: Copy + Eq>(types: &MemoryTypes<H>, index: usize, most: u64) -> u64
+    ensures { result ≡ within (budget_at (budgets types.now) index)
+        (capacity_of (slots_at (slots_of types.now) index)) most }
+{
+    match types.budget(index) {
+        None => most,
+        Some(budget) => most.min(budget.saturating_sub(capacity_at(types, index))),
+    }
 }
 
 /// Whether a block of that size, of the memory type at `index`, would be above the limit of its heap.

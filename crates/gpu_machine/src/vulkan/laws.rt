@@ -16,19 +16,19 @@ ghost use Rattle.gpu_vulkan.specs.Rename.{IsNamed};
 ghost use Rattle.gpu_vulkan.specs.declared.allocation.Allocation.{Allocation};
 ghost use Rattle.gpu_vulkan.specs.declared.describe.AllocationCreateDesc.{AllocationCreateDesc};
 ghost use Rattle.gpu_machine.specs.VulkanCalls.{Frees, memory_in};
-ghost use Rattle.gpu_machine.specs.VulkanRun.{Allocated, Runs, Returns, State};
-ghost use Rattle.gpu_machine.specs.VulkanState.{IsOver, IsUnlimited};
+ghost use Rattle.gpu_machine.specs.VulkanRun.{Allocated, Runs, Returns, State, most_questions};
+ghost use Rattle.gpu_machine.specs.VulkanState.{IsOver, AsksAsAllocator};
 ghost use Rattle.gpu_machine.specs.declared.vulkan.answer.MemoryBack.{MemoryBack};
 
 use gpu_device::vulkan::VulkanDevice;
 
-/// Where neither heaps nor blocks are bounded, whoever begins a request, asks a device the questions, and tells the machine the answers, has what the Vulkan
-/// allocator's `allocate` returns over that device, and leaves its blocks and the device as `allocate` does; nothing else of the machine changes, and no
-/// question is left open.
+/// Where neither heaps nor the number of blocks are bounded, and blocks don't shrink, whoever begins a request, asks a device the questions, and tells the
+/// machine the answers, has what the Vulkan allocator's `allocate` returns over that device, and leaves its blocks and the device as `allocate` does; nothing
+/// else of the machine changes, and no question is left open.
 pub fn runs_are_allocations<D: VulkanDevice>()
     ensures { (questions : ℕ) (old new : State) (d : AllocationCreateDesc) (device after : D)
         (told : Result Allocated AllocationError) (result : Result Allocation AllocationError)
-        → IsOver old.setup old.requests → IsUnlimited old → old.requests.awaited ≡ None
+        → IsOver old.setup old.requests → AsksAsAllocator old → old.requests.awaited ≡ None
         → old.asking ≡ None
         → Runs D.VulkanDevice d questions old device told new after
         → Returns old.setup d told result
@@ -40,14 +40,12 @@ pub fn runs_are_allocations<D: VulkanDevice>()
         }) }
 {}
 
-/// There a request by a location asks at most two questions.
-pub fn two_questions_suffice<D: VulkanDevice>()
+/// A request by a location asks at most two questions, six where blocks shrink.
+pub fn few_questions_suffice<D: VulkanDevice>()
     ensures { (questions : ℕ) (old new : State) (d : AllocationCreateDesc) (device after : D)
         (told : Result Allocated AllocationError)
-        → IsOver old.setup old.requests → IsUnlimited old → old.requests.awaited ≡ None
-        → old.asking ≡ None
         → Runs D.VulkanDevice d questions old device told new after
-        → Runs D.VulkanDevice d 2 old device told new after }
+        → Runs D.VulkanDevice d (most_questions old.smaller_blocks) old device told new after }
 {}
 
 /// Whoever frees a piece, and gives a device back the memory that the machine told, has freed the allocator's allocation over that device;

@@ -20,28 +20,32 @@ ghost use Rattle.gpu_vulkan.specs.BlockAnswer.{memory_refusal, map_refusal};
 ghost use Rattle.gpu_vulkan.specs.Choice.{best_type};
 ghost use Rattle.gpu_vulkan.specs.Setup.{properties_told};
 ghost use Rattle.gpu_vulkan.specs.Types.{is_mapped, kinds_of_device};
-ghost use Rattle.gpu_machine.specs.VulkanState.{IsOver, IsUnlimited, told_fault};
+ghost use Rattle.gpu_machine.specs.VulkanState.{IsOver, AsksAsAllocator, told_fault};
 ghost use Rattle.gpu_machine.specs.VulkanAsking.{asking_for};
-ghost use Rattle.gpu_machine.specs.VulkanAttempt.{Attempts, Places};
-ghost use Rattle.gpu_machine.specs.VulkanBegin.{Tries, Follows, MakesAttempts, Begins, Grants, Declines, GoesOnFor};
+ghost use Rattle.gpu_machine.specs.VulkanAttempt.{Attempts, AttemptsSized, Places};
+ghost use Rattle.gpu_machine.specs.VulkanBegin.{Tries, Follows, MakesAttempts, Begins, Grants, Declines, GoesOnFor, Shrinks};
 ghost use Rattle.gpu_machine.specs.VulkanByFlags.{AttemptsBy, BeginsDown, GoesDown};
 ghost use Rattle.gpu_machine.specs.VulkanDescription.{description_of, without, IsWellFormed};
-ghost use Rattle.gpu_machine.specs.VulkanCalls.{memory_back, live_block, block_at, Frees, SetsHeapLimit, SetsMostBlocks};
+ghost use Rattle.gpu_machine.specs.VulkanCalls.{memory_back, live_block, block_at, Frees, SetsHeapLimit, SetsMostBlocks, SetsSmallerBlocks};
 ghost use Rattle.gpu_machine.specs.VulkanHeapLimit.{limit_at};
 ghost use Rattle.gpu_machine.specs.VulkanLive.{Gives, GivesAgain, GivesAwaited};
 ghost use Rattle.gpu_machine.specs.VulkanMove.{Proposes};
+ghost use Rattle.gpu_machine.specs.VulkanSmallerBlocks.{sizes_in, bytes_left, smaller_portion};
 
 use crate::vulkan::answer::{Allocated, LiveBlock, MemoryBack, Progress, Question};
 use crate::vulkan::asking::{Asking, Rest};
 use crate::vulkan::block_count::has_most;
 use crate::vulkan::description::without;
-use crate::vulkan::heap_limit::{limit_at, no_limits, passes_limit};
-use crate::vulkan::refusal::{lacks_room, no_such_heap, refusal_of_mapping};
+use crate::vulkan::heap_limit::{limit_at, no_limits, passes_limit, within_budget, within_limit};
+use crate::vulkan::refusal::{is_bounded, lacks_room, no_such_heap, refusal_of_mapping};
+use crate::vulkan::smaller_blocks::{
+    LARGEST_BLOCK, Portion, may_be_smaller, next_portion, sizes_in_heap,
+};
 use crate::vulkan::told::fault_of;
 use gpu_core::{AllLeaks, MemoryType, MemoryTypes, Piece};
 use gpu_device::vulkan::{MemoryHeap, MemoryPropertyFlags, MemoryTypeInfo};
 use gpu_pool::{Begun, Requests, answer_awaited, no_answer_awaited};
-use gpu_values::{AllocationError, AllocatorReport, MemoryLocation, Result};
+use gpu_values::{AllocationError, AllocationSizes, AllocatorReport, MemoryLocation, Result};
 use gpu_vulkan::{
     AllocationCreateDesc, Preference, Settings, Setup, best_type, cheapest_type, is_again,
     next_type, refusal_of_memory, request_of, told_parts,
@@ -121,6 +125,7 @@ pub struct Machine<H: Copy + Eq> {
     setup: Setup,
     limits: Vec<Option<u64>>,
     most_blocks: Option<usize>,
+    smaller_blocks: bool,
     requests: Requests<H>,
     asking: Option<Asking>,
 }
@@ -134,6 +139,7 @@ impl<H: Copy + Eq> Model for Machine<H> {
       setup = m.setup;
       limits = m.limits.items;
       most_blocks = m.most_blocks;
+      smaller_blocks = m.smaller_blocks;
       requests = m.requests;
       asking = m.asking;
     } };
@@ -143,7 +149,7 @@ impl<H: Copy + Eq> Model for Machine<H> {
 }
 
 impl<H: Copy + Eq> Machine<H> {
-    /// A machine without blocks, budgets and limits, over a device that has these memory types and heaps, and this
+    /// A machine without blocks, budgets and limits, whose blocks are no smaller where memory is short, over a device that has these memory types and heaps, and this
     /// `bufferImageGranularity`. The errors: `InvalidAllocatorCreateDesc` for the first that holds of a granularity that isn't
     /// a power of two, more than 32 memory types, and a memory type in a heap that isn't there; else `HostOutOfMemory`.
     pub fn new(
@@ -164,7 +170,7 @@ impl<H: Copy + Eq> Machine<H> {
         ensures budgets { IfOk result (λ m. All (λ b. b ≡ None) m.requests.budgets) }
         ensures bounds { IfOk result (λ m. length m.requests.budgets
             ≡ length memory_types.items) }
-        ensures unlimited { IfOk result IsUnlimited }
+        ensures plain { IfOk result AsksAsAllocator }
         ensures heaps { IfOk result (λ m. length m.limits ≡ length heaps.items) }
         ensures closed { IfOk result (λ m. (m.requests.awaited ≡ None) × (m.asking ≡ None)) }
         ensures valid { OnOk result (told_fault
@@ -188,6 +194,7 @@ impl<H: Copy + Eq> Machine<H> {
                 setup,
                 limits,
                 most_blocks: None,
+                smaller_blocks: false,
                 requests: Requests::new(sizes, types),
                 asking: None,
             }),
@@ -419,6 +426,27 @@ impl<H: Copy + Eq> Machine<H> {
         self.most_blocks
     }
 
+    /// Whether shared blocks are smaller where memory is short: in a heap of at most 1 GB none has more than an eighth of it; where its memory type's
+    /// budget or its heap's limit leaves no room for one, it is as large as they leave; and where the driver has none, half of it is asked for,
+    /// then a quarter, before another memory type. A request that is above the smaller block asks for a block of its own. It takes no host
+    /// memory. `Internal` while a question is open; then nothing changes.
+    pub fn set_smaller_blocks(&mut self, smaller_blocks: bool) -> Result<()>
+        ensures { SetsSmallerBlocks self.old smaller_blocks result self.new }
+    {
+        if self.awaits_answer() {
+            return Err(answer_awaited());
+        }
+        self.smaller_blocks = smaller_blocks;
+        Ok(())
+    }
+
+    /// Whether shared blocks are smaller where memory is short.
+    pub fn smaller_blocks(&self) -> bool
+        ensures { result ≡ self.now.smaller_blocks }
+    {
+        self.smaller_blocks
+    }
+
     /// The sum of the sizes of the live blocks, in bytes. A block that is awaited isn't one.
     pub fn capacity(&self) -> u64
         ensures { result ≡ total_capacity self.now.requests.slots }
@@ -498,6 +526,9 @@ impl<H: Copy + Eq> Machine<H> {
             self.new.requests.slots result }
         ensures keeps { StayLive H.eq self.old.requests.slots self.new.requests.slots }
     {
+        let Some(block) = self.requests.question() else {
+            return Err(no_answer_awaited());
+        };
         let Some(asking) = self.asking.take() else {
             return Err(no_answer_awaited());
         };
@@ -505,8 +536,63 @@ impl<H: Copy + Eq> Machine<H> {
             Err(late) => Err(late),
             Ok(()) => {
                 let desc = asking.description.lend();
-                self.go_on(&desc, &asking, error)
+                self.shrink(&desc, &asking, &block, error)
             }
+        }
+    }
+
+    // A smaller block of the same memory type, where one is to be tried, then what is left of the request.
+    fn shrink(
+        &mut self,
+        desc: &AllocationCreateDesc,
+        asking: &Asking,
+        block: &gpu_pool::Question,
+        error: AllocationError,
+    ) -> Result<Progress<H>>
+        requires idle { self.old.requests.awaited ≡ None }
+        requires sized { 0 < desc.now.requirements.size }
+        requires aligned { IsTrue (is_power_of_two desc.now.requirements.alignment) }
+        requires there { block.now.memory_type < length self.old.setup.properties.types }
+        requires kept { IsWellFormed (description_of desc.now) }
+        requires says { description_of desc.now ≡ asking.now.description }
+        ensures smaller { Shrinks asking.now block.now self.old desc.now (refusal_of error) result
+            self.new }
+        ensures gives { Gives H.eq desc.now.requirements.alignment self.old.requests.slots
+            self.new.requests.slots result }
+        ensures keeps { StayLive H.eq self.old.requests.slots self.new.requests.slots }
+    {
+        let size = desc.requirements.size;
+        let Some(portion) = self.smaller_portion(asking.portion, block, size, &error) else {
+            return self.go_on(desc, asking, error);
+        };
+        let rest = Rest {
+            desc,
+            is_second: asking.is_second,
+            preference: asking.preference,
+            portion,
+        };
+        let sizes = self.setup.sizes().at_most(block.size / 2);
+        match self.attempt_sized(desc, block.memory_type, &sizes, &rest) {
+            Ok(progress) => Ok(progress),
+            Err(denied) => self.go_on(desc, asking, denied),
+        }
+    }
+
+    // What is asked for once this block of a request of `size` bytes was refused.
+    fn smaller_portion(
+        &self,
+        portion: Portion,
+        block: &gpu_pool::Question,
+        size: u64,
+        error: &AllocationError,
+    ) -> Option<Portion>
+        ensures { result
+            ≡ smaller_portion self.now.smaller_blocks portion block.now size (refusal_of error.now) }
+    {
+        if self.smaller_blocks && lacks_room(error) && may_be_smaller(block, size) {
+            next_portion(portion)
+        } else {
+            None
         }
     }
 
@@ -626,12 +712,14 @@ impl<H: Copy + Eq> Machine<H> {
         ensures tries { Tries self.old index desc.now is_second result self.new }
         ensures gives { Gives H.eq desc.now.requirements.alignment self.old.requests.slots
             self.new.requests.slots result }
+        ensures refused { OnErr result (self.new ≡ self.old) }
         ensures keeps { StayLive H.eq self.old.requests.slots self.new.requests.slots }
     {
         let rest = Rest {
             desc,
             is_second,
             preference: None,
+            portion: Portion::Whole,
         };
         self.attempt(desc, index, &rest)
     }
@@ -663,6 +751,7 @@ impl<H: Copy + Eq> Machine<H> {
             desc: left,
             is_second: false,
             preference: Some(*preference),
+            portion: Portion::Whole,
         };
         self.attempt(desc, index, &rest)
     }
@@ -694,7 +783,34 @@ impl<H: Copy + Eq> Machine<H> {
         }
     }
 
-    // One attempt at the memory type at `index`, up to its question, for which the rest of the request is kept.
+    // The sizes of the shared blocks of the memory type at `index`.
+    fn sizes_in(&self, index: usize) -> AllocationSizes
+        requires { index < length self.now.setup.properties.types }
+        ensures { result ≡ sizes_in self.now index }
+    {
+        let sizes = self.setup.sizes();
+        if self.smaller_blocks {
+            sizes_in_heap(sizes, self.setup.heap_size(index))
+        } else {
+            sizes
+        }
+    }
+
+    // What the budget of the memory type at `index` and its heap's limit leave for a block.
+    fn bytes_left(&self, index: usize) -> u64
+        ensures { result ≡ bytes_left self.now index }
+    {
+        let types = self.requests.memory_types();
+        let infos = self.setup.memory_types();
+        within_budget(
+            types,
+            index,
+            within_limit(types, infos, &self.limits, index, LARGEST_BLOCK),
+        )
+    }
+
+    // The first attempts at the memory type at `index`, up to a question: by its heap's blocks, and where a bound leaves no room for one, by a block
+    // as large as bounds leave.
     fn attempt(
         &mut self,
         desc: &AllocationCreateDesc,
@@ -713,10 +829,44 @@ impl<H: Copy + Eq> Machine<H> {
         ensures refused { OnErr result (self.new ≡ self.old) }
         ensures keeps { StayLive H.eq self.old.requests.slots self.new.requests.slots }
     {
+        let sizes = self.sizes_in(index);
+        match self.attempt_sized(desc, index, &sizes, rest) {
+            Ok(progress) => Ok(progress),
+            Err(error) => {
+                if self.smaller_blocks && is_bounded(&error) {
+                    let left = sizes.at_most(self.bytes_left(index));
+                    self.attempt_sized(desc, index, &left, rest)
+                } else {
+                    Err(error)
+                }
+            }
+        }
+    }
+
+    // One attempt at the memory type at `index` by shared blocks of these sizes, up to its question, for which the rest of the request is kept.
+    fn attempt_sized(
+        &mut self,
+        desc: &AllocationCreateDesc,
+        index: usize,
+        sizes: &AllocationSizes,
+        rest: &Rest,
+    ) -> Result<Progress<H>>
+        requires idle { self.old.requests.awaited ≡ None }
+        requires sized { 0 < desc.now.requirements.size }
+        requires aligned { IsTrue (is_power_of_two desc.now.requirements.alignment) }
+        requires there { index < length self.old.setup.properties.types }
+        requires kept { IsWellFormed (description_of rest.now.desc.now) }
+        ensures attempts { AttemptsSized sizes.now self.old index (description_of desc.now)
+            (asking_for rest.now) result self.new }
+        ensures gives { Gives H.eq desc.now.requirements.alignment self.old.requests.slots
+            self.new.requests.slots result }
+        ensures refused { OnErr result (self.new ≡ self.old) }
+        ensures keeps { StayLive H.eq self.old.requests.slots self.new.requests.slots }
+    {
         if desc.requirements.size > self.setup.heap_size(index) {
             return Err(AllocationError::OutOfMemory);
         }
-        let block = match self.requests.begin(index, &request_of(desc)) {
+        let block = match self.requests.begin_sized(index, &request_of(desc), sizes) {
             Err(error) => return Err(error),
             Ok(Begun::Piece(piece)) => {
                 return Ok(Progress::Piece(Allocated {

@@ -4,7 +4,7 @@ ghost use Rattle.std.specs.Prelude.{◌≡◌};
 ghost use Rattle.std.specs.Option.{option_map};
 ghost use Rattle.gpu_values.specs.Refusal.{refusal_of};
 ghost use Rattle.gpu_vulkan.specs.BlockAnswer.{map_refusal};
-ghost use Rattle.gpu_machine.specs.VulkanByFlags.{lacks_room};
+ghost use Rattle.gpu_machine.specs.VulkanRoom.{lacks_room, is_bounded};
 ghost use Rattle.gpu_machine.specs.VulkanCalls.{no_such_heap};
 
 use gpu_values::{AllocationError, Fault};
@@ -25,7 +25,7 @@ pub fn refusal_of_mapping(code: Option<i32>) -> AllocationError
     }
 }
 
-/// Whether a memory type, its budget or its heap has no room: another memory type may have.
+/// Whether a memory type, its budget or its heap has no room: a smaller block, or another memory type, may have.
 pub fn lacks_room(error: &AllocationError) -> bool
     ensures { result ≡ lacks_room (refusal_of error.now) }
 {
@@ -33,6 +33,13 @@ pub fn lacks_room(error: &AllocationError) -> bool
         error,
         AllocationError::OutOfMemory | AllocationError::BudgetExceeded
     )
+}
+
+/// Whether a bound is why there is no room.
+pub fn is_bounded(error: &AllocationError) -> bool
+    ensures { result ≡ is_bounded (refusal_of error.now) }
+{
+    matches!(error, AllocationError::BudgetExceeded)
 }
 
 /// No heap has that index.

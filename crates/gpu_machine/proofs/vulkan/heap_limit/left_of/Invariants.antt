@@ -1,7 +1,7 @@
 use Rattle.std.proofs.Common.{◌≡◌, ◌+◌, drop}
 use Rattle.gpu_core.specs.Types.{slots_of}
 use Rattle.gpu_machine.specs.VulkanHeapLimit.{held_from, held_in}
-use Rattle.gpu_machine.proofs.vulkan.heap_limit.is_above.Given as goal
+use Rattle.gpu_machine.proofs.vulkan.heap_limit.left_of.Given as goal
 
 abbrev pub invariant-loop-info : goal.invariant-loop-info
 invariant-loop-info g l = record {
