@@ -756,6 +756,10 @@ PILHANGKO_NODISCARD PILHANGKO_API pilhangko_status PILHANGKO_CALL pilhangko_raw_
     pilhangko_allocator *allocator, bool has_most, size_t count);
 PILHANGKO_NODISCARD PILHANGKO_API pilhangko_status PILHANGKO_CALL pilhangko_raw_allocator_most_blocks(
     const pilhangko_allocator *allocator, bool *has_most, size_t *count);
+PILHANGKO_NODISCARD PILHANGKO_API pilhangko_status PILHANGKO_CALL pilhangko_raw_allocator_set_smaller_blocks(
+    pilhangko_allocator *allocator, bool smaller_blocks);
+PILHANGKO_NODISCARD PILHANGKO_API pilhangko_status PILHANGKO_CALL pilhangko_raw_allocator_smaller_blocks(
+    const pilhangko_allocator *allocator, bool *smaller_blocks);
 PILHANGKO_NODISCARD PILHANGKO_API pilhangko_status PILHANGKO_CALL pilhangko_raw_allocator_capacity(
     const pilhangko_allocator *allocator, uint64_t *bytes);
 PILHANGKO_NODISCARD PILHANGKO_API pilhangko_status PILHANGKO_CALL pilhangko_raw_allocator_best_type(
@@ -1457,6 +1461,23 @@ PILHANGKO_NODISCARD static inline pilhangko_status pilhangko_allocator_most_bloc
     const pilhangko_allocator *allocator, bool *has_most, size_t *count) {
     if (!allocator || !has_most || !count) return PILHANGKO_NULL_POINTER;
     return pilhangko_raw_allocator_most_blocks(allocator, has_most, count);
+}
+
+/* Says whether blocks are smaller where memory is short; a new allocator's aren't. In a heap of at most 1 GB no shared block then has more than an
+ * eighth of it; where a budget or a limit leaves no room for one, it is as large as they leave; and where the driver has none, half of it is asked
+ * for, then a quarter, before another memory type. A request that is above the smaller block asks for a block of its own.
+ * NO_HANDLE. AWAITS_ANSWER. */
+PILHANGKO_NODISCARD static inline pilhangko_status pilhangko_allocator_set_smaller_blocks(pilhangko_allocator *allocator, bool smaller_blocks) {
+    if (!allocator) return PILHANGKO_NULL_POINTER;
+    return pilhangko_raw_allocator_set_smaller_blocks(allocator, smaller_blocks);
+}
+
+/* Whether they are.
+ * NO_HANDLE. */
+PILHANGKO_NODISCARD static inline pilhangko_status pilhangko_allocator_smaller_blocks(
+    const pilhangko_allocator *allocator, bool *smaller_blocks) {
+    if (!allocator || !smaller_blocks) return PILHANGKO_NULL_POINTER;
+    return pilhangko_raw_allocator_smaller_blocks(allocator, smaller_blocks);
 }
 
 /* The sum of the sizes of the live blocks. A block that is awaited isn't one.

@@ -2,7 +2,8 @@
  * request goes to the first memory type that it allows which has all that its location prefers, else to the first one that has all that it
  * needs. A refused upload has one more attempt, at the first memory type that has what uploads need. A request by flags goes to the memory types
  * that have all required ones: to the one with the least preferred flags missing and avoided ones there, of equal ones the first, and while one
- * has no room to the next. */
+ * has no room to the next. Where blocks are smaller, no shared block has more than an eighth of a heap of at most 1 GB; where a budget or a limit has no
+ * room for one, it has as many bytes as they leave; and once one above the request was refused, half of it is asked for, and then half of that. */
 #ifndef ALLOCATOR_ACCOUNT_H
 #define ALLOCATOR_ACCOUNT_H
 #include "type_account.h"
@@ -23,6 +24,7 @@ struct allocator_account {
     uint64_t limit[ACCOUNT_HEAPS]; /* of each heap's blocks, where it has one */
     bool has_most;
     size_t most_blocks; /* of all memory types, where that is bounded */
+    bool smaller_blocks;
     struct type_account types[ACCOUNT_TYPES];
     /* the request that is under way, or was last */
     pilhangko_allocator_request request;
@@ -32,6 +34,7 @@ struct allocator_account {
     pilhangko_preference preference;
     uint32_t left; /* by flags: the memory types that weren't tried */
     size_t type;                   /* of the attempt */
+    unsigned halvings;             /* of its block, after refusals */
     struct placed placed;          /* what the attempt came to */
 };
 
@@ -58,16 +61,54 @@ static inline size_t block_count(const struct allocator_account *a) {
     return count;
 }
 
+/* Allocates in a memory type whose shared blocks have at most so many bytes, rounded down to 4 MB, which the smallest one has. */
+static inline pilhangko_status allocate_bounded(struct allocator_account *a, size_t type, const pilhangko_memory_request *request, uint64_t most) {
+    struct type_account *t = &a->types[type];
+    const uint64_t first = t->block_size, largest = t->largest_block_size, whole = most < 4 * MB ? 4 * MB : most - most % (4 * MB);
+    pilhangko_status status;
+    if (whole < first) t->block_size = whole;
+    if (whole < largest) t->largest_block_size = whole;
+    status = type_allocate(t, request, a->name, allocator_capacity(a), &a->placed);
+    t->block_size = first;
+    t->largest_block_size = largest;
+    return status;
+}
+
 /* Allocates in a memory type, where the request is within its heap, and a block that it needs within that heap's limit and not one too many. */
-static inline pilhangko_status allocate_in_type(struct allocator_account *a, size_t type, const pilhangko_memory_request *request, bool asks) {
+static inline pilhangko_status allocate_in_type(
+    struct allocator_account *a, size_t type, const pilhangko_memory_request *request, bool asks, uint64_t most) {
     pilhangko_status status;
     a->type = type;
     if (request->size > a->heap_size[type]) return PILHANGKO_OUT_OF_MEMORY;
-    status = type_allocate(&a->types[type], request, a->name, allocator_capacity(a), &a->placed);
+    status = allocate_bounded(a, type, request, most);
     if (status != PILHANGKO_OK || !a->placed.needs_block) return status;
     if (!asks) return PILHANGKO_OUT_OF_MEMORY;
     if (a->has_most && block_count(a) >= a->most_blocks) return PILHANGKO_BUDGET_EXCEEDED;
     return is_above_limit(a, type) ? PILHANGKO_BUDGET_EXCEEDED : PILHANGKO_OK;
+}
+
+static inline uint64_t what_is_left(uint64_t bound, uint64_t held) {
+    return bound > held ? bound - held : 0;
+}
+
+/* What a memory type's budget and its heap's limit leave, of so many bytes. */
+static inline uint64_t bytes_left(const struct allocator_account *a, size_t type, uint64_t most) {
+    const struct type_account *t = &a->types[type];
+    const size_t heap = a->heap[type];
+    uint64_t sum = 0, least = most;
+    for (size_t i = 0; i < a->type_count; i++) sum += a->heap[i] == heap ? type_capacity(&a->types[i]) : 0;
+    if (a->has_limit[heap] && what_is_left(a->limit[heap], sum) < least) least = what_is_left(a->limit[heap], sum);
+    if (t->has_budget && what_is_left(t->budget, type_capacity(t)) < least) least = what_is_left(t->budget, type_capacity(t));
+    return least;
+}
+
+/* The first attempts at a memory type, up to a question. */
+static inline pilhangko_status first_attempts(struct allocator_account *a, size_t type, const pilhangko_memory_request *request, bool asks) {
+    const uint64_t most = a->smaller_blocks && a->heap_size[type] <= 1024 * MB ? a->heap_size[type] / 8 : UINT64_MAX;
+    const pilhangko_status status = allocate_in_type(a, type, request, asks, asks ? most : UINT64_MAX);
+    a->halvings = 0;
+    if (!asks || !a->smaller_blocks || status != PILHANGKO_BUDGET_EXCEEDED) return status;
+    return allocate_in_type(a, type, request, asks, bytes_left(a, type, most));
 }
 
 /* The first memory type that is allowed and has the flags, or the count of memory types. */
@@ -116,7 +157,7 @@ static inline pilhangko_status account_go_down(struct allocator_account *a, pilh
     const pilhangko_memory_request request = attempt_request(a);
     for (size_t type = cheapest_type(a); type < a->type_count; type = cheapest_type(a)) {
         a->left &= ~(UINT32_C(1) << type);
-        last = allocate_in_type(a, type, &request, !a->preference.never_allocate);
+        last = first_attempts(a, type, &request, !a->preference.never_allocate);
         if (last == PILHANGKO_OK) a->awaits_answer = a->placed.needs_block;
         if (!lacks_room(last)) break;
     }
@@ -130,7 +171,7 @@ static inline pilhangko_status account_second_attempt(struct allocator_account *
 /* Attempts the request at a memory type: it leads to a piece, to a question, or to its refusal. */
 static inline pilhangko_status account_attempt(struct allocator_account *a, size_t type) {
     pilhangko_memory_request request = attempt_request(a);
-    const pilhangko_status status = allocate_in_type(a, type, &request, true);
+    const pilhangko_status status = first_attempts(a, type, &request, true);
     if (status != PILHANGKO_OK) return account_second_attempt(a, status);
     a->awaits_answer = a->placed.needs_block;
     return PILHANGKO_OK;
@@ -173,9 +214,24 @@ static inline pilhangko_status account_begin_by_flags(
     return account_go_down(a, PILHANGKO_NO_MEMORY_TYPE);
 }
 
+/* A smaller block of the same memory type, where one may serve. */
+static inline pilhangko_status account_smaller(struct allocator_account *a, pilhangko_status refused) {
+    const pilhangko_memory_request request = attempt_request(a);
+    const struct placed block = a->placed;
+    pilhangko_status status;
+    if (!a->smaller_blocks || !lacks_room(refused) || a->halvings == 2) return refused;
+    if (block.dedicated || request.size >= block.block_size || block.block_size <= 4 * MB) return refused;
+    a->halvings++;
+    status = allocate_in_type(a, a->type, &request, true, block.block_size / 2);
+    if (status == PILHANGKO_OK) a->awaits_answer = a->placed.needs_block;
+    return status;
+}
+
 /* The question is answered by a refusal. */
 static inline pilhangko_status account_refused(struct allocator_account *a, pilhangko_status refused) {
     a->awaits_answer = false;
+    refused = account_smaller(a, refused);
+    if (refused == PILHANGKO_OK) return PILHANGKO_OK;
     if (a->by_flags) return lacks_room(refused) ? account_go_down(a, refused) : refused;
     return account_second_attempt(a, refused);
 }

@@ -364,7 +364,7 @@ static void begins_account(const pilhangko_device_memory_type *types, const pilh
     const pilhangko_allocator_settings *s) {
     has_allocator = true;
     account.heap_count = heap_count;
-    account.has_most = false;
+    account.has_most = account.smaller_blocks = false;
     for (size_t i = 0; i < ACCOUNT_HEAPS; i++) account.has_limit[i] = false;
     account.type_count = count;
     account.awaits_answer = false;
@@ -609,6 +609,16 @@ static void limits_blocks(void) {
     CHECK(has_most == account.has_most && most == (account.has_most ? account.most_blocks : 0));
 }
 
+static void sets_smaller_blocks(void) {
+    const bool smaller = next_byte() % 4 != 0;
+    const pilhangko_status status = allocator_status(true, PILHANGKO_OK);
+    IS(pilhangko_allocator_set_smaller_blocks(&allocator, smaller), status);
+    if (status == PILHANGKO_OK) account.smaller_blocks = smaller;
+    bool told = !account.smaller_blocks;
+    IS(pilhangko_allocator_smaller_blocks(&allocator, &told), allocator_status(false, PILHANGKO_OK));
+    CHECK(!has_allocator || told == account.smaller_blocks);
+}
+
 /* The limit of a heap, which counts for all its memory types. */
 static void limits_heap(void) {
     const size_t at = next_byte() % 16 ? next_byte() % ACCOUNT_HEAPS : next_number();
@@ -808,6 +818,7 @@ static void calls_allocator(uint8_t what) {
     else if (what < 78) bounds_allocator();
     else if (what < 79) limits_heap();
     else if (what < 80) limits_blocks();
+    else if (what < 82) sets_smaller_blocks();
     else if (what < 89) looks_at_allocator();
     else if (what < 99) proposes_move();
     else ends_allocator();

@@ -3,6 +3,7 @@ use Rattle.std.proofs.Common.{◌≡◌, ℕ, ◌≤◌, ◌<◌, true, false, B
 use Rattle.std.specs.Prelude.{IsSome, length}
 use Rattle.std.specs.List.{list_any}
 use Rattle.gpu_values.specs.Refusal.{Refusal, refusal_of}
+use Rattle.gpu_values.specs.Sizes.{Sizes}
 use Rattle.gpu_values.specs.declared.error.AllocationError.{AllocationError}
 use Rattle.gpu_block.specs.Block.{HoldsPiece}
 use Rattle.gpu_core.specs.TypeRelease.{SlotHolds}
@@ -12,14 +13,17 @@ use Rattle.gpu_core.specs.Blocks.{Slots, slots_at}
 use Rattle.gpu_core.specs.Budgets.{Budgets}
 use Rattle.gpu_pool.specs.Idle.{FreesIn, RenamesIn, RenamesIdle, SetsBudgetIn, SetsBudgetIdle}
 use Rattle.gpu_pool.specs.Live as machine_live
-use Rattle.gpu_pool.specs.RequestState.{RequestState}
+use Rattle.gpu_pool.specs.RequestState.{RequestState, with_sizes}
+use Rattle.gpu_pool.proofs.Beginning.{sized_back}
 use Rattle.gpu_pool.specs.declared.requests.Awaited.{Awaited}
 use Rattle.gpu_vulkan.specs.declared.describe.AllocationCreateDesc.{AllocationCreateDesc}
 use Rattle.gpu_pool.specs.Begin as pools
-use Rattle.gpu_machine.specs.VulkanAttempt.{IsAboveLimit}
-use Rattle.gpu_machine.specs.VulkanBegin.{request_in, IsWithinHeap, Tries, Begins, BeginsIn, BeginsBy, BeginsAt, MakesAttempts, Follows, Grants, GrantsIn}
+use Rattle.gpu_machine.specs.VulkanAttempt.{AttemptsSized, IsAboveLimit, BeginsWithinHeap}
+use Rattle.gpu_machine.specs.VulkanAttempt.Attempts.{tries_whole, tries_left}
+use Rattle.gpu_machine.specs.VulkanBegin.{request_in, asking_of, Tries, Begins, BeginsIn, BeginsBy, BeginsAt, MakesAttempts, Follows, Grants, GrantsIn}
 use Rattle.gpu_machine.specs.VulkanCalls.{Frees, memory_in}
 use Rattle.gpu_machine.specs.VulkanDescription.{description_of}
+use Rattle.gpu_machine.specs.VulkanSmallerBlocks.{sizes_in, sizes_left}
 use Rattle.gpu_machine.specs.declared.vulkan.answer.Allocated.{Allocated}
 use Rattle.gpu_machine.specs.declared.vulkan.answer.MemoryBack.{MemoryBack}
 use Rattle.gpu_c.specs.Allocator.{State, is_same_block, piece_told, Names, IsLive}
@@ -72,16 +76,20 @@ has_number s p zero live =
 -- ---- what a refusal leaves
 
 module _ (old new : State) (d : AllocationCreateDesc) (e : AllocationError) where
-  tries_same : (t : ℕ) (is_second : Bool) → Tries old t d is_second (Err e) new → old.requests.awaited ≡ None → new ≡ old
-  tries_same t is_second h closed =
+  sized_same : (sizes : Sizes) (t : ℕ) (is_second : Bool) → AttemptsSized sizes old t (description_of d) (asking_of d is_second) (Err e) new → old.requests.awaited ≡ None → new ≡ old
+  sized_same sizes t is_second h closed =
       ⊎_elim (λ large. large.refused.1)
-      (λ rest. ⊎_elim (λ (above : IsAboveLimit old t (description_of d) (Err e) new). above.refused.1)
-      (λ (within : IsWithinHeap old t d is_second (Err e) new).
-      let begun : pools.BeginsIn (request_in t d) None old.requests (Err e) new.requests =
-      subst (λ (o : Option Awaited). pools.BeginsIn (request_in t d) o old.requests (Err e) new.requests) closed within.begins in
-      within.state ∙ ap (λ (r : RequestState MappedMemory). record old { requests = r }) begun.1)
+      (λ rest. ⊎_elim (λ (above : IsAboveLimit sizes old t (description_of d) (Err e) new). above.refused.1)
+      (λ (within : BeginsWithinHeap sizes old t (description_of d) (asking_of d is_second) (Err e) new).
+      let begun : pools.BeginsIn (request_in t d) None (with_sizes sizes old.requests) (Err e) (with_sizes sizes new.requests) =
+      subst (λ (o : Option Awaited). pools.BeginsIn (request_in t d) o (with_sizes sizes old.requests) (Err e) (with_sizes sizes new.requests)) closed within.begins in
+      within.state ∙ ap (λ (r : RequestState MappedMemory). record old { requests = r }) (sized_back sizes new.requests old.requests within.sizes_stay begun.1))
       rest)
       h
+
+  tries_same : (t : ℕ) (is_second : Bool) → Tries old t d is_second (Err e) new → old.requests.awaited ≡ None → new ≡ old
+  tries_same t is_second (tries_whole unlike whole) closed = sized_same (sizes_in old t) t is_second whole closed
+  tries_same t is_second (tries_left cause smaller bounded whole again) closed = sized_same (sizes_left old t) t is_second again closed
 
   follows_same : (o : Option ℕ) (r : Refusal) → old.requests.awaited ≡ None → Follows old d o r (Err e) new → new ≡ old
   follows_same None r closed h = h.1

@@ -3,17 +3,20 @@ use Rattle.std.proofs.Common.{◌≡◌, ℕ, ◌<◌, ◌==◌, ◌&&◌, Bool,
 use Rattle.std.specs.Int.{is_power_of_two}
 use Rattle.gpu_values.specs.Refusal as refusals
 use Rattle.gpu_values.specs.Refusal.{Refusal, refusal_of}
+use Rattle.gpu_values.specs.Sizes.{Sizes}
 use Rattle.gpu_values.specs.declared.error.AllocationError.{AllocationError}
 use Rattle.gpu_device.specs.declared.vulkan.types.MemoryRequirements.{MemoryRequirements}
 use Rattle.gpu_pool.specs.Begin as pools
 use Rattle.gpu_pool.specs.Allocate.{NeedsNewBlock}
-use Rattle.gpu_pool.specs.RequestState.{pool_of}
+use Rattle.gpu_pool.specs.RequestState.{with_sizes, pool_of}
 use Rattle.gpu_pool.specs.declared.requests.Awaited.{Awaited}
 use Rattle.gpu_vulkan.specs.Allocate.{is_valid}
 use Rattle.gpu_vulkan.specs.declared.describe.AllocationCreateDesc.{AllocationCreateDesc}
-use Rattle.gpu_machine.specs.VulkanAttempt.{IsAboveLimit}
-use Rattle.gpu_machine.specs.VulkanBegin.{request_in, IsTooLarge, IsWithinHeap, Tries, Begins, BeginsIn, BeginsBy, BeginsAt, MakesAttempts, Follows}
+use Rattle.gpu_machine.specs.VulkanAttempt.{AttemptsSized, IsAboveLimit, BeginsWithinHeap}
+use Rattle.gpu_machine.specs.VulkanAttempt.Attempts.{tries_whole, tries_left}
+use Rattle.gpu_machine.specs.VulkanBegin.{request_in, asking_of, IsTooLarge, Tries, Begins, BeginsIn, BeginsBy, BeginsAt, MakesAttempts, Follows}
 use Rattle.gpu_machine.specs.VulkanDescription.{description_of}
+use Rattle.gpu_machine.specs.VulkanSmallerBlocks.{sizes_in, sizes_left}
 use Rattle.gpu_c.specs.Allocator.{State, Says}
 use Rattle.gpu_c.specs.Status as status
 use Rattle.gpu_c.specs.Status.{IsOneOf, refusal_status}
@@ -44,21 +47,26 @@ limited true false r e = subst TheOption e budget_told
 limited false y r e = subst TheOption e short_told
 
 module _ (old : State) (d : AllocationCreateDesc) (closed : old.requests.awaited ≡ None) where
-  within_told : (t : ℕ) (is_second : Bool) (e : AllocationError) (new : State) → IsWithinHeap old t d is_second (Err e) new → Told (refusal_of e)
-  within_told t is_second e new within =
-      let begun : pools.BeginsIn (request_in t d) None old.requests (Err e) new.requests =
-      subst (λ (o : Option Awaited). pools.BeginsIn (request_in t d) o old.requests (Err e) new.requests) closed within.begins in
+  within_told : (sizes : Sizes) (t : ℕ) (is_second : Bool) (e : AllocationError) (new : State) → BeginsWithinHeap sizes old t (description_of d) (asking_of d is_second) (Err e) new → Told (refusal_of e)
+  within_told sizes t is_second e new within =
+      let requests = with_sizes sizes old.requests in
+      let left = with_sizes sizes new.requests in
+      let begun : pools.BeginsIn (request_in t d) None requests (Err e) left = subst (λ (o : Option Awaited). pools.BeginsIn (request_in t d) o requests (Err e) left) closed within.begins in
       ⊎_elim (λ starved. subst Told (sym starved) host_told)
-      (λ (much : (size : ℕ) × NeedsNewBlock old.requests.kinds pools.NoneAsked (request_in t d) (pool_of tt old.requests) size (Some (refusal_of e))). limited _ _ (refusal_of e) much.1.limits)
+      (λ (much : (size : ℕ) × NeedsNewBlock requests.kinds pools.NoneAsked (request_in t d) (pool_of tt requests) size (Some (refusal_of e))). limited _ _ (refusal_of e) much.1.limits)
       begun.0
 
-  tried_told : (t : ℕ) (is_second : Bool) (e : AllocationError) (new : State) → Tries old t d is_second (Err e) new → Told (refusal_of e)
-  tried_told t is_second e new h =
+  sized_told : (sizes : Sizes) (t : ℕ) (is_second : Bool) (e : AllocationError) (new : State) → AttemptsSized sizes old t (description_of d) (asking_of d is_second) (Err e) new → Told (refusal_of e)
+  sized_told sizes t is_second e new h =
       ⊎_elim (λ (large : IsTooLarge old t d (Err e) new). subst TheOption (sym large.refused.0) short_told)
-      (λ rest. ⊎_elim (λ (above : IsAboveLimit old t (description_of d) (Err e) new). subst TheOption (sym above.refused.0) budget_told)
-      (λ (within : IsWithinHeap old t d is_second (Err e) new). within_told t is_second e new within)
+      (λ rest. ⊎_elim (λ (above : IsAboveLimit sizes old t (description_of d) (Err e) new). subst TheOption (sym above.refused.0) budget_told)
+      (λ (within : BeginsWithinHeap sizes old t (description_of d) (asking_of d is_second) (Err e) new). within_told sizes t is_second e new within)
       rest)
       h
+
+  tried_told : (t : ℕ) (is_second : Bool) (e : AllocationError) (new : State) → Tries old t d is_second (Err e) new → Told (refusal_of e)
+  tried_told t is_second e new (tries_whole unlike whole) = sized_told (sizes_in old t) t is_second e new whole
+  tried_told t is_second e new (tries_left cause smaller bounded whole again) = sized_told (sizes_left old t) t is_second e new again
 
   follows_told : (o : Option ℕ) (r : Refusal) (e : AllocationError) (new : State) → Told r → Follows old d o r (Err e) new → Told (refusal_of e)
   follows_told None r e new told h = subst TheOption (sym h.0) told

@@ -65,6 +65,7 @@ use Rattle.gpu_d3d12.specs.contracts.committed_requests.CommittedRequests as Com
 use Rattle.gpu_machine.specs.contracts.d3d12.machine.Machine as D3D12Machine
 use Rattle.gpu_machine.specs.contracts.metal.machine.Machine as MetalMachine
 use Rattle.gpu_machine.specs.contracts.vulkan.asking.Asking as Asking
+use Rattle.gpu_machine.specs.contracts.vulkan.smaller_blocks.Portion as Portion
 use Rattle.gpu_machine.specs.contracts.vulkan.description.Description as Description
 use Rattle.gpu_machine.specs.contracts.vulkan.machine.Machine as Machine
 use Rattle.gpu_ring.specs.contracts.ring.FrameStatistics as FrameStatistics
@@ -248,8 +249,11 @@ preference_send = let b = bool_send in search sendable depth 20
 preference_option_send : IsSend (Option.the_field Preference.the_row).row
 preference_option_send = let p = preference_send in search sendable depth 20
 
+portion_send : IsSend (Portion.the_field).row
+portion_send = search sendable depth 20
+
 asking_send : IsSend Asking.the_row
-asking_send = recorded_send (Asking.the_field).row _ _ (Asking.the_type).to_one (struct_send (shape Asking.the_type) (description_send, (bool_send, (preference_option_send, tt))))
+asking_send = recorded_send (Asking.the_field).row _ _ (Asking.the_type).to_one (struct_send (shape Asking.the_type) (description_send, (bool_send, (preference_option_send, (portion_send, tt)))))
 
 limit_send : IsSend (Option.the_row u64)
 limit_send = search sendable depth 20
@@ -286,10 +290,10 @@ module _ (H : RattleType) where
 
 machine_of : ((e : eq.Ghosts MappedMemory.the_row.Denot) → IsSend (MemoryType.the_row MappedMemory.the_row e)) → IsSend (Machine.the_row MappedMemory.the_row memory_eq.ghosts)
 machine_of t =
-    let s = setup_send in let l = limits_send in let m = most_send in let a = asking_option_send in let g = heap.send in
+    let s = setup_send in let l = limits_send in let m = most_send in let b = bool_send in let a = asking_option_send in let g = heap.send in
     record {
       owned = λ d vs x. (
-        (λ vss. (tt, (g.owned _ vss.0, (s.owned x.0.setup vss.1.0, (l.owned x.0.limits vss.1.1.0, (m.owned x.0.most_blocks vss.1.1.1.0, ((requests_of MappedMemory.the_row t memory_eq.ghosts).owned x.0.requests vss.1.1.1.1.0, (a.owned x.0.asking vss.1.1.1.1.1.0, tt)))))))),
+        (λ vss. (tt, (g.owned _ vss.0, (s.owned x.0.setup vss.1.0, (l.owned x.0.limits vss.1.1.0, (m.owned x.0.most_blocks vss.1.1.1.0, (b.owned x.0.smaller_blocks vss.1.1.1.1.0, ((requests_of MappedMemory.the_row t memory_eq.ghosts).owned x.0.requests vss.1.1.1.1.1.0, (a.owned x.0.asking vss.1.1.1.1.1.1.0, tt))))))))),
         tt,
       );
       leaving = λ k d w. tt;

@@ -76,14 +76,14 @@ block_sizes s = record {
 abbrev pub no_lines : AllocatorDebugSettings
 no_lines = record { log_memory_information = false; log_leaks_on_shutdown = false; log_allocations = false; log_frees = false }
 
--- an allocator without blocks, budgets, limits and an open question, over the device that was told
+-- an allocator without blocks, budgets, limits and an open question, whose blocks are no smaller where memory is short, over the device that was told
 pub record IsFresh (types : List DeviceMemoryType) (heaps : List DeviceHeap) (s : AllocatorSettings) (new : State) : Type 0 where
   pub setup : new.setup ≡ record { properties = device_told types heaps s; sizes = block_sizes s; debug = no_lines; device_address = false }
   pub types_there : length new.requests.slots ≡ length types
   pub empty : All (λ slots. slots ≡ []) new.requests.slots
   pub unbounded : All (λ b. b ≡ None) new.requests.budgets
   pub bounds_there : length new.requests.budgets ≡ length types
-  pub unlimited : machine_state.IsUnlimited new
+  pub plain : machine_state.AsksAsAllocator new
   pub limits_there : length new.limits ≡ length heaps
   pub closed : (new.requests.awaited ≡ None) × (new.asking ≡ None)
 

@@ -8,7 +8,7 @@ ghost use Rattle.gpu_core.specs.Blocks.{total_capacity};
 ghost use Rattle.gpu_core.specs.Budgets.{budget_at};
 ghost use Rattle.gpu_vulkan.specs.BlockAnswer.{memory_refusal, map_refusal};
 ghost use Rattle.gpu_pool.specs.Idle.{SetsBudgetIdle};
-ghost use Rattle.gpu_machine.specs.VulkanCalls.{SetsHeapLimit, SetsMostBlocks};
+ghost use Rattle.gpu_machine.specs.VulkanCalls.{SetsHeapLimit, SetsMostBlocks, SetsSmallerBlocks};
 ghost use Rattle.gpu_machine.specs.VulkanHeapLimit.{limit_at};
 ghost use Rattle.gpu_machine.specs.VulkanState.{told_fault};
 ghost use Rattle.gpu_c.specs.Handle.{Changes};
@@ -27,7 +27,7 @@ use crate::allocator::{
 use crate::allocator_answer::budget_told;
 use crate::allocator_flags::begin_by_flags;
 use crate::allocator_handle::AllocatorHandle;
-use crate::allocator_limits::{set_heap_limit, set_most_blocks};
+use crate::allocator_limits::{set_heap_limit, set_most_blocks, set_smaller_blocks};
 use crate::allocator_moves::propose_move;
 use crate::allocator_request::device_status;
 use crate::allocator_values::{
@@ -557,6 +557,59 @@ pub extern "C" fn pilhangko_raw_allocator_most_blocks(
             let most = kept.most_blocks();
             *has_most = most.is_some();
             *count = most.unwrap_or(0);
+            allocator.put(kept);
+            OK
+        }
+    }
+}
+
+/// Says whether shared blocks are smaller where memory is short: in a heap of at most 1 GB none has more than an eighth of it; where a budget or
+/// a limit leaves no room for one, it is as large as they leave; and where the driver has none, half of it is asked for, then a quarter, before
+/// another memory type. `AWAITS_ANSWER` where a question is open.
+#[unsafe(no_mangle)]
+pub extern "C" fn pilhangko_raw_allocator_set_smaller_blocks(
+    allocator: &mut AllocatorHandle,
+    alloc: Global,
+    smaller_blocks: bool,
+) -> u32
+    ensures set { result ≡ status.ok
+        → Changes allocator.old.value allocator.new.value
+        (λ old new. (old.requests.awaited ≡ None) × SetsSmallerBlocks old smaller_blocks (Ok tt) new) }
+    ensures no_handle { (result ≡ status.no_handle) ↔ (allocator.old.value ≡ None) }
+    ensures awaits_answer { (result ≡ status.awaits_answer)
+        ↔ IsSomeAnd allocator.old.value (λ s. IsSome s.requests.awaited) }
+    ensures statuses { IsOneOf result (status.ok ∷ status.no_handle ∷ status.awaits_answer
+        ∷ []) }
+    ensures refused { result ≢ status.ok → allocator.new.value ≡ allocator.old.value }
+{
+    match allocator.take(alloc) {
+        None => NO_HANDLE,
+        Some(mut kept) => {
+            let status = set_smaller_blocks(&mut kept, smaller_blocks);
+            allocator.put(kept);
+            status
+        }
+    }
+}
+
+/// Whether shared blocks are smaller where memory is short.
+#[unsafe(no_mangle)]
+pub extern "C" fn pilhangko_raw_allocator_smaller_blocks(
+    allocator: &mut AllocatorHandle,
+    alloc: Global,
+    smaller_blocks: &mut bool,
+) -> u32
+    ensures reported { result ≡ status.ok
+        → IsSomeAnd allocator.old.value (λ s. smaller_blocks.new ≡ s.smaller_blocks) }
+    ensures no_handle { (result ≡ status.no_handle) ↔ (allocator.old.value ≡ None) }
+    ensures statuses { IsOneOf result (status.ok ∷ status.no_handle ∷ []) }
+    ensures same { allocator.new.value ≡ allocator.old.value }
+    ensures refused { result ≢ status.ok → smaller_blocks.new ≡ smaller_blocks.old }
+{
+    match allocator.take(alloc) {
+        None => NO_HANDLE,
+        Some(kept) => {
+            *smaller_blocks = kept.smaller_blocks();
             allocator.put(kept);
             OK
         }

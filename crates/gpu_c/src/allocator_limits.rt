@@ -1,7 +1,7 @@
-//! Limits of heaps and of blocks of an allocator of Vulkan's memory: tests what C passes, and says in C's words what the machine answers.
+//! Limits of heaps and of blocks, and sizes of blocks, of an allocator of Vulkan's memory: tests what C passes, and says in C's words what the machine answers.
 
 ghost use Rattle.std.specs.Prelude.{◌≡◌, ◌≢◌, ◌≤◌, ◌↔◌, [], ◌∷◌, length, None, IsSome, Ok};
-ghost use Rattle.gpu_machine.specs.VulkanCalls.{SetsHeapLimit, SetsMostBlocks};
+ghost use Rattle.gpu_machine.specs.VulkanCalls.{SetsHeapLimit, SetsMostBlocks, SetsSmallerBlocks};
 ghost use Rattle.gpu_c.specs.AllocatorLimits.{count_if};
 ghost use Rattle.gpu_c.specs.MemoryType.{number_if};
 ghost use Rattle.gpu_c.specs.Status as status;
@@ -54,6 +54,20 @@ pub fn set_most_blocks(machine: &mut Machine<MappedMemory>, has_most: bool, coun
     ensures refused { result ≢ status.ok → machine.new ≡ machine.old }
 {
     match machine.set_most_blocks(count_if(has_most, count)) {
+        Err(_) => AWAITS_ANSWER,
+        Ok(_) => OK,
+    }
+}
+
+/// Says whether shared blocks are smaller where memory is short.
+pub fn set_smaller_blocks(machine: &mut Machine<MappedMemory>, smaller_blocks: bool) -> u32
+    ensures set { result ≡ status.ok → (machine.old.requests.awaited ≡ None)
+        × SetsSmallerBlocks machine.old smaller_blocks (Ok tt) machine.new }
+    ensures awaits_answer { (result ≡ status.awaits_answer) ↔ IsSome machine.old.requests.awaited }
+    ensures statuses { IsOneOf result (status.ok ∷ status.awaits_answer ∷ []) }
+    ensures refused { result ≢ status.ok → machine.new ≡ machine.old }
+{
+    match machine.set_smaller_blocks(smaller_blocks) {
         Err(_) => AWAITS_ANSWER,
         Ok(_) => OK,
     }

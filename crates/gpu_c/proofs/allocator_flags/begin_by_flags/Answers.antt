@@ -4,7 +4,6 @@ use Rattle.gpu_machine.specs.VulkanByFlags.{BeginsDown}
 use Rattle.gpu_machine.specs.VulkanDescription.{description_of}
 use Rattle.gpu_machine.proofs.VulkanBeginning.{is_closed}
 use Rattle.gpu_c.specs.Allocator.{State}
-use Rattle.gpu_c.specs.AllocatorFlags.{preference_said}
 use Rattle.gpu_c.specs.Status as status
 use Rattle.gpu_c.specs.Status.{IsOneOf}
 use Rattle.gpu_c.proofs.AllocatorFlags.{down_refused}
