@@ -401,6 +401,7 @@ pilhangko_status PILHANGKO_CALL pilhangko_vulkan_read_device(const pilhangko_vul
 /* What a binding and a pool are both made with. */
 struct block_settings {
     VkDeviceSize device_size, largest_device_size, host_size, largest_host_size;
+    bool whole;
     pilhangko_vulkan_write capture_write;
     void *capture_user;
 };
@@ -423,7 +424,8 @@ static pilhangko_status create_allocator(struct binding *b, const struct block_s
     }
     status = pilhangko_allocator_create(&b->allocator, types, p->memoryTypeCount, heaps, p->memoryHeapCount, &s);
     if (status == PILHANGKO_OK && is_captured(b)) capture_device(&b->capture, p, &s);
-    return status;
+    if (status != PILHANGKO_OK || blocks->whole || is_captured(b)) return status; /* (a trace has no smaller blocks) */
+    return pilhangko_allocator_set_smaller_blocks(&b->allocator, true);
 }
 
 /* Begins a binding without blocks over what it has in common with its pools, or with the binding that it is a pool of. */
@@ -477,7 +479,7 @@ struct parent {
 /* Reads the device, and makes the allocator over it. */
 static pilhangko_status begin_parent(struct parent *parent, const pilhangko_vulkan_settings *settings) {
     const struct block_settings blocks = {settings->device_block_size, settings->largest_device_block_size, settings->host_block_size,
-        settings->largest_host_block_size, settings->capture_write, settings->capture_user};
+        settings->largest_host_block_size, settings->whole_blocks, settings->capture_write, settings->capture_user};
     pilhangko_status status;
     keep_settings(&parent->common, settings);
     status = read_properties(&parent->common);
@@ -510,7 +512,7 @@ pilhangko_status PILHANGKO_CALL pilhangko_vulkan_create(pilhangko_vulkan *vulkan
 
 static pilhangko_status begin_pool(struct binding *pool, struct common *common, const pilhangko_vulkan_pool_settings *settings) {
     const struct block_settings blocks = {settings->device_block_size, settings->largest_device_block_size, settings->host_block_size,
-        settings->largest_host_block_size, settings->capture_write, settings->capture_user};
+        settings->largest_host_block_size, settings->whole_blocks, settings->capture_write, settings->capture_user};
     const pilhangko_status status = begin_binding(pool, common, &blocks);
     if (settings->memory_type_bits != 0) pool->type_bits = settings->memory_type_bits;
     pool->next = settings->next;

@@ -5,6 +5,9 @@
 
 #include "pilhangko_vulkan.h"
 
+/* How many refusals of a call a trace has: one for each attempt, since a binding with a capture has no smaller blocks. */
+#define CAPTURED_REFUSALS 2
+
 /* What a call asked the driver, in the trace's terms: how many questions, and which of them it refused. */
 struct asked {
     uint64_t questions;
@@ -13,15 +16,17 @@ struct asked {
         uint64_t question;
         bool is_null;
         int32_t code;
-    } refused[2];    /* one for each attempt */
+    } refused[CAPTURED_REFUSALS];
     VkResult driver; /* the last code of a refusal */
 };
 
 static inline void note_refusal(struct asked *asked, bool is_null, int32_t code, VkResult driver) {
-    asked->refused[asked->refusals].question = asked->questions;
-    asked->refused[asked->refusals].is_null = is_null;
-    asked->refused[asked->refusals].code = code;
-    asked->refusals++;
+    if (asked->refusals < CAPTURED_REFUSALS) {
+        asked->refused[asked->refusals].question = asked->questions;
+        asked->refused[asked->refusals].is_null = is_null;
+        asked->refused[asked->refusals].code = code;
+        asked->refusals++;
+    }
     if (driver != VK_SUCCESS) asked->driver = driver;
 }
 

@@ -79,7 +79,8 @@ typedef bool(PILHANGKO_CALL *pilhangko_vulkan_write)(void *user, const char *byt
 
 /* All zeros but the first three fields are settings that work. A block size of 0 is 256 MB for memory that the host can't see and 64 MB for
  * memory that it can; blocks don't double up where the largest size is 0. (They are brought into 4 MB to 256 MB: see
- * pilhangko_memory_type_settings.) */
+ * pilhangko_memory_type_settings.) Where memory is short, blocks are smaller (pilhangko_allocator_set_smaller_blocks), but not with whole_blocks, nor
+ * with a capture, since a trace has no such blocks. */
 typedef struct pilhangko_vulkan_settings {
     VkPhysicalDevice physical_device;
     VkDevice device;
@@ -92,6 +93,7 @@ typedef struct pilhangko_vulkan_settings {
     VkDeviceSize largest_device_block_size;
     VkDeviceSize host_block_size;
     VkDeviceSize largest_host_block_size;
+    bool whole_blocks;                    /* whether blocks keep these sizes where memory is short */
     pilhangko_vulkan_write capture_write; /* where the capture goes; NULL for no capture */
     void *capture_user;                   /* handed to capture_write */
     bool externally_synchronized;         /* whether the caller sees to it that one call is made at a time: no lock is taken */
@@ -145,6 +147,7 @@ typedef struct pilhangko_vulkan_pool_settings {
     VkDeviceSize largest_device_block_size;
     VkDeviceSize host_block_size;
     VkDeviceSize largest_host_block_size;
+    bool whole_blocks;
     pilhangko_vulkan_write capture_write;
     void *capture_user;
 } pilhangko_vulkan_pool_settings;

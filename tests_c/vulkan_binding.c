@@ -219,6 +219,7 @@ static void settings_rows(void) {
     settings.allocation_callbacks = &callbacks;
     settings.buffer_device_address = true;
     settings.device_block_size = settings.host_block_size = settings.largest_host_block_size = 0;
+    fake_heaps[0].size = 2048 * MB; /* no small one */
     IS(pilhangko_vulkan_create(&vulkan, &settings), PILHANGKO_OK);
     callbacks.pUserData = NULL; /* they were copied */
     const pilhangko_vulkan_request device = asks(100, 1, PILHANGKO_LOCATION_UNKNOWN), host = asks(100, 2, PILHANGKO_LOCATION_UNKNOWN);

@@ -501,6 +501,7 @@ static void begins_account(struct member *m, FILE *replies) {
     struct allocator_account *a = &m->account;
     a->type_count = 5;
     a->heap_count = 3;
+    a->smaller_blocks = !replies;
     for (size_t i = 0; i < 5; i++) {
         a->flags[i] = fake_types[i].propertyFlags;
         a->heap[i] = fake_types[i].heapIndex;

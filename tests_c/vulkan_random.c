@@ -650,6 +650,7 @@ static void begins(FILE *capture, uint32_t most_blocks) {
     fake.most_memories = most_blocks;
     account.has_most = most_blocks > 0;
     account.most_blocks = most_blocks;
+    account.smaller_blocks = !capture;
     settings.buffer_device_address = settings.memory_budget = true;
     settings.capture_write = capture ? writes : NULL;
     settings.capture_user = capture;

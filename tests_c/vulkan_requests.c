@@ -405,11 +405,12 @@ static void never_allocated(void) {
 /* The two locations of the binding's, and where they go when memory is lacking. */
 static void own_locations(void) {
     pilhangko_vulkan vulkan = {0};
-    const pilhangko_vulkan_settings settings = fake_settings();
+    pilhangko_vulkan_settings settings = fake_settings();
     pilhangko_vulkan_request staging = asks(100, 4, 31, PILHANGKO_VULKAN_LOCATION_STAGING),
                              transient = asks(100, 4, 31, PILHANGKO_VULKAN_LOCATION_TRANSIENT);
     fake_begin();
     fake_types[3].propertyFlags = VK_MEMORY_PROPERTY_DEVICE_LOCAL_BIT | VK_MEMORY_PROPERTY_LAZILY_ALLOCATED_BIT;
+    settings.whole_blocks = true; /* each memory type is asked once */
     IS(pilhangko_vulkan_create(&vulkan, &settings), PILHANGKO_OK);
     const pilhangko_vulkan_allocation a = allocates(&vulkan, &staging), b = allocates(&vulkan, &transient);
     CHECK(a.piece.memory_type == 1 && !a.dedicated && b.piece.memory_type == 3 && b.dedicated && fake_memory_of(b.memory)->size == 100);

@@ -123,6 +123,7 @@ static pilhangko_vulkan over(const struct memory_table *table) {
         fake_types[i].heapIndex = table->types[i].heap;
     }
     settings.device_block_size = settings.host_block_size = settings.largest_host_block_size = 0;
+    settings.whole_blocks = true; /* each memory type is asked once */
     IS(pilhangko_vulkan_create(&vulkan, &settings), PILHANGKO_OK);
     return vulkan;
 }

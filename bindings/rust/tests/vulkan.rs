@@ -27,6 +27,7 @@ fn described(driver: &FakeDriver) -> AllocatorCreateDesc {
     AllocatorCreateDesc {
         buffer_device_address: true,
         allocation_sizes: AllocationSizes::new(8 * MB, 4 * MB).with_max_host_memblock_size(8 * MB),
+        whole_blocks: true, // each memory type is asked once
         ..AllocatorCreateDesc::new(driver.device())
     }
 }

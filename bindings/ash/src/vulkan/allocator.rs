@@ -86,6 +86,7 @@ impl Allocator {
             debug_settings: desc.debug_settings.inner(),
             buffer_device_address: desc.buffer_device_address,
             allocation_sizes: desc.allocation_sizes,
+            whole_blocks: true, // as gpu-allocator's
             logger: Some(logger(desc.debug_settings.log_stack_traces)),
             capture: false,
         })?;

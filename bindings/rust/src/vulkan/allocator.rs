@@ -53,6 +53,10 @@ pub struct AllocatorCreateDesc {
     pub buffer_device_address: bool,
     /// The sizes of the blocks that pieces share.
     pub allocation_sizes: AllocationSizes,
+    /// Whether blocks keep these sizes where memory is short. Else in a heap of at most 1 GB none that pieces share has more than an eighth of it; where
+    /// a limit or a budget leaves no room for one, it is as large as they leave; and where the driver has none, half of it is asked for, then a
+    /// quarter, before another memory type. With a capture they keep them, too, since a trace has no such blocks.
+    pub whole_blocks: bool,
     /// Where log lines go.
     pub logger: Option<Logger>,
     /// Whether the calls are recorded: `Allocator::capture`.
@@ -67,6 +71,7 @@ impl AllocatorCreateDesc {
             debug_settings: AllocatorDebugSettings::default(),
             buffer_device_address: false,
             allocation_sizes: AllocationSizes::default(),
+            whole_blocks: false,
             logger: None,
             capture: false,
         }
@@ -102,7 +107,7 @@ impl Allocator {
     pub fn new(desc: &AllocatorCreateDesc) -> Result<Self> {
         let AllocatorCreateDesc { device, allocation_sizes, .. } = desc;
         device.check()?;
-        let allocator = Allocator {
+        let mut allocator = Allocator {
             machine: Machine::new(device, allocation_sizes)?,
             owner: next_owner(),
             requests: 0,
@@ -112,6 +117,7 @@ impl Allocator {
             capture: desc.capture.then(|| Capture::new(device, allocation_sizes)).transpose()?,
             log: Log::new(desc.debug_settings, desc.logger.as_ref()),
         };
+        allocator.machine.set_smaller_blocks(!desc.whole_blocks && !desc.capture);
         allocator.device().describe(&allocator.log);
         Ok(allocator)
     }

@@ -169,6 +169,12 @@ impl Machine {
         });
     }
 
+    /// Says whether blocks are smaller where memory is short.
+    pub(super) fn set_smaller_blocks(&mut self, smaller: bool) {
+        // SAFETY: the handle is this machine's alone.
+        check_unrefused(unsafe { raw::pilhangko_raw_allocator_set_smaller_blocks(self.handle.as_ptr(), smaller) });
+    }
+
     /// How many blocks there are.
     pub(super) fn block_count(&self) -> usize {
         self.blocks

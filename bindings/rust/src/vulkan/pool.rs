@@ -21,6 +21,8 @@ pub struct PoolCreateDesc {
     pub most_blocks: Option<usize>,
     /// The sizes of its blocks that pieces share.
     pub allocation_sizes: AllocationSizes,
+    /// Whether blocks keep these sizes where memory is short, as of an allocator.
+    pub whole_blocks: bool,
     /// Whether its calls are recorded: `Allocator::capture`.
     pub capture: bool,
 }
@@ -43,7 +45,9 @@ impl Allocator {
         if desc.next.is_some_and(|chain| chain.has(MemoryDedicatedAllocateInfo::STRUCTURE_TYPE)) {
             return Err(invalid_device("memory for one resource in the chain of a pool."));
         }
-        self.apart(desc, self.machine.apart(&desc.allocation_sizes, desc.most_blocks)?)
+        let mut machine = self.machine.apart(&desc.allocation_sizes, desc.most_blocks)?;
+        machine.set_smaller_blocks(!desc.whole_blocks && !desc.capture);
+        self.apart(desc, machine)
     }
 }
 

@@ -150,6 +150,7 @@ impl Script {
         let sizes = AllocationSizes::new(8 * MB, 4 * MB).with_max_device_memblock_size(32 * MB);
         let desc = AllocatorCreateDesc {
             allocation_sizes: sizes,
+            whole_blocks: true, // the account's are; smaller ones stand beside C's
             buffer_device_address: true,
             capture: is_captured,
             ..AllocatorCreateDesc::new(driver.device())
