@@ -1464,8 +1464,8 @@ PILHANGKO_NODISCARD static inline pilhangko_status pilhangko_allocator_most_bloc
 }
 
 /* Says whether blocks are smaller where memory is short; a new allocator's aren't. In a heap of at most 1 GB no shared block then has more than an
- * eighth of it; where a budget or a limit leaves no room for one, it is as large as they leave; and where the driver has none, half of it is asked
- * for, then a quarter, before another memory type. A request that is above the smaller block asks for a block of its own.
+ * eighth of it, or 4 MB; where a budget or a limit leaves no room for one, it is as large as they leave; and where the driver has none, half of it
+ * is asked for, then a quarter, before another memory type. A request that is above the smaller block asks for a block of its own.
  * NO_HANDLE. AWAITS_ANSWER. */
 PILHANGKO_NODISCARD static inline pilhangko_status pilhangko_allocator_set_smaller_blocks(pilhangko_allocator *allocator, bool smaller_blocks) {
     if (!allocator) return PILHANGKO_NULL_POINTER;

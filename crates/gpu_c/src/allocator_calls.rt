@@ -563,9 +563,9 @@ pub extern "C" fn pilhangko_raw_allocator_most_blocks(
     }
 }
 
-/// Says whether shared blocks are smaller where memory is short: in a heap of at most 1 GB none has more than an eighth of it; where a budget or
-/// a limit leaves no room for one, it is as large as they leave; and where the driver has none, half of it is asked for, then a quarter, before
-/// another memory type. `AWAITS_ANSWER` where a question is open.
+/// Says whether shared blocks are smaller where memory is short: in a heap of at most 1 GB none has more than an eighth of it, or 4 MB; where a
+/// budget or a limit leaves no room for one, it is as large as they leave; and where the driver has none, half of it is asked for, then a
+/// quarter, before another memory type. `AWAITS_ANSWER` where a question is open.
 #[unsafe(no_mangle)]
 pub extern "C" fn pilhangko_raw_allocator_set_smaller_blocks(
     allocator: &mut AllocatorHandle,

@@ -1,4 +1,5 @@
-//! Limits of heaps and of blocks, and sizes of blocks, of an allocator of Vulkan's memory: tests what C passes, and says in C's words what the machine answers.
+//! Limits of heaps and of blocks, and sizes of blocks, of an allocator of Vulkan's memory: tests what C passes, and says in C's words what the
+//! machine answers.
 
 ghost use Rattle.std.specs.Prelude.{◌≡◌, ◌≢◌, ◌≤◌, ◌↔◌, [], ◌∷◌, length, None, IsSome, Ok};
 ghost use Rattle.gpu_machine.specs.VulkanCalls.{SetsHeapLimit, SetsMostBlocks, SetsSmallerBlocks};

@@ -78,13 +78,13 @@ module _ {H : Type 0} where
   abbrev pub SetsMostBlocks : State H → (most : Option ℕ) → Result (Unit {0}) AllocationError → State H → Type 0
   SetsMostBlocks old most result new = SetsMostBlocksIn old.requests.awaited old most result new
 
--- ---- whether blocks shrink
+-- ---- smaller blocks
 
 module _ {H : Type 0} where
   abbrev pub SetsSmallerBlocksIn : Option Awaited → State H → (smaller_blocks : Bool) → Result (Unit {0}) AllocationError → State H → Type 0
   SetsSmallerBlocksIn (Some _) old smaller_blocks result new = IsRefused answer_awaited old result new
   SetsSmallerBlocksIn None old smaller_blocks result new = (result ≡ Ok tt) × (new ≡ record old { smaller_blocks = smaller_blocks })
 
-  -- blocks shrink from now on, or don't, where no question is open
+  -- blocks are smaller where memory is short from now on, or aren't, where no question is open
   abbrev pub SetsSmallerBlocks : State H → (smaller_blocks : Bool) → Result (Unit {0}) AllocationError → State H → Type 0
   SetsSmallerBlocks old smaller_blocks result new = SetsSmallerBlocksIn old.requests.awaited old smaller_blocks result new

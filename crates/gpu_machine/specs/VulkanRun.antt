@@ -63,7 +63,7 @@ module _ {D : Type 0} (g : Ghosts D) (d : AllocationCreateDesc) where
     pub begins : Begins old d first mid
     pub finishes : Finishes questions mid device first told new after
 
--- how many questions a request by a location asks at most: one for each of two memory types, or three, where blocks shrink
+-- how many questions a request by a location asks at most: one for each of two memory types, or three with smaller blocks
 abbrev pub most_questions : (smaller_blocks : Bool) → ℕ
 most_questions smaller_blocks = if smaller_blocks then 6 else 2
 

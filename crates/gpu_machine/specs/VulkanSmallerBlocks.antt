@@ -13,7 +13,7 @@ use Rattle.gpu_machine.specs.VulkanState.{State}
 use Rattle.gpu_machine.specs.declared.vulkan.smaller_blocks.Portion.{Portion}
 use Rattle.gpu_machine.specs.declared.vulkan.smaller_blocks.Portion.TheVariants as portion
 
--- in a heap of at most 1 GB no shared block has more than an eighth of it
+-- in a heap of at most 1 GB no shared block has more than an eighth of it, or 4 MB
 abbrev pub sizes_in_heap : Sizes → (heap : ℕ) → Sizes
 sizes_in_heap sizes heap = if nat_le heap (1024 * mb) then sizes_at_most sizes (heap / 8) else sizes
 
@@ -52,7 +52,7 @@ abbrev pub portion_if : Bool → Portion → Option Portion
 portion_if false p = None
 portion_if true p = next_portion p
 
--- what is asked for once this block of a request of `size` bytes was refused: a smaller one, where blocks shrink, the refusal is for lack of room, and a
+-- what is asked for once this block of a request of `size` bytes was refused: a smaller one, where there are such, the refusal is for lack of room, and a
 -- smaller one may serve
 abbrev pub smaller_portion : (smaller_blocks : Bool) → Portion → Question → (size : ℕ) → Refusal → Option Portion
 smaller_portion smaller_blocks p block size refusal = portion_if (smaller_blocks && (lacks_room refusal && may_be_smaller block size)) p

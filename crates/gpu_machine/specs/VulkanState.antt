@@ -11,8 +11,8 @@ use Rattle.gpu_machine.specs.VulkanDescription.{IsWellFormed}
 use Rattle.gpu_machine.specs.VulkanHeapLimit.{Limits, HasNoLimits}
 use Rattle.gpu_machine.specs.declared.vulkan.asking.Asking.{Asking}
 
--- what the machine is made with, the limits of heaps and how many blocks there may be, whether blocks shrink, the blocks with their pieces and
--- budgets, and the request whose question is open
+-- what the machine is made with, the limits of heaps and how many blocks there may be, whether they are smaller where memory is short, the blocks
+-- with their pieces and budgets, and the request whose question is open
 pub record State (H : Type 0) : Type 0 where
   pub setup : Setup
   pub limits : Limits
@@ -41,7 +41,7 @@ told_fault p = setup_fault 1 p
 abbrev pub IsRefused : {H A : Type 0} → Refusal → State H → Result A AllocationError → State H → Type 0
 IsRefused refusal old result new = (refusal_in result ≡ Some refusal) × (new ≡ old)
 
--- what is asked for is what the allocator asks for: neither heaps nor the number of blocks are bounded, and blocks never shrink
+-- what is asked for is what the allocator asks for: neither heaps nor the number of blocks are bounded, and they are never smaller
 pub record AsksAsAllocator {H : Type 0} (s : State H) : Type 0 where
   pub heaps : HasNoLimits s.limits
   pub blocks : s.most_blocks ≡ None

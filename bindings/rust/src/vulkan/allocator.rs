@@ -53,9 +53,9 @@ pub struct AllocatorCreateDesc {
     pub buffer_device_address: bool,
     /// The sizes of the blocks that pieces share.
     pub allocation_sizes: AllocationSizes,
-    /// Whether blocks keep these sizes where memory is short. Else in a heap of at most 1 GB none that pieces share has more than an eighth of it; where
-    /// a limit or a budget leaves no room for one, it is as large as they leave; and where the driver has none, half of it is asked for, then a
-    /// quarter, before another memory type. With a capture they keep them, too, since a trace has no such blocks.
+    /// Whether blocks keep these sizes where memory is short. Else in a heap of at most 1 GB none that pieces share has more than an eighth of it, or
+    /// 4 MB; where a limit or a budget leaves no room for one, it is as large as they leave; and where the driver has none, half of it is asked for,
+    /// then a quarter, before another memory type. With a capture they keep them, too, since a trace has no such blocks.
     pub whole_blocks: bool,
     /// Where log lines go.
     pub logger: Option<Logger>,

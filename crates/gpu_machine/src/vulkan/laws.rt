@@ -22,9 +22,9 @@ ghost use Rattle.gpu_machine.specs.declared.vulkan.answer.MemoryBack.{MemoryBack
 
 use gpu_device::vulkan::VulkanDevice;
 
-/// Where neither heaps nor the number of blocks are bounded, and blocks don't shrink, whoever begins a request, asks a device the questions, and tells the
-/// machine the answers, has what the Vulkan allocator's `allocate` returns over that device, and leaves its blocks and the device as `allocate` does; nothing
-/// else of the machine changes, and no question is left open.
+/// Where neither heaps nor the number of blocks are bounded, and blocks are never smaller, whoever begins a request, asks a device the questions,
+/// and tells the machine the answers, has what the Vulkan allocator's `allocate` returns over that device, and leaves its blocks and the device as
+/// `allocate` does; nothing else of the machine changes, and no question is left open.
 pub fn runs_are_allocations<D: VulkanDevice>()
     ensures { (questions : ℕ) (old new : State) (d : AllocationCreateDesc) (device after : D)
         (told : Result Allocated AllocationError) (result : Result Allocation AllocationError)
@@ -40,7 +40,7 @@ pub fn runs_are_allocations<D: VulkanDevice>()
         }) }
 {}
 
-/// A request by a location asks at most two questions, six where blocks shrink.
+/// A request by a location asks at most two questions, six with smaller blocks.
 pub fn few_questions_suffice<D: VulkanDevice>()
     ensures { (questions : ℕ) (old new : State) (d : AllocationCreateDesc) (device after : D)
         (told : Result Allocated AllocationError)

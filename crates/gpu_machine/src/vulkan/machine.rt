@@ -149,9 +149,9 @@ impl<H: Copy + Eq> Model for Machine<H> {
 }
 
 impl<H: Copy + Eq> Machine<H> {
-    /// A machine without blocks, budgets and limits, whose blocks are no smaller where memory is short, over a device that has these memory types and heaps, and this
-    /// `bufferImageGranularity`. The errors: `InvalidAllocatorCreateDesc` for the first that holds of a granularity that isn't
-    /// a power of two, more than 32 memory types, and a memory type in a heap that isn't there; else `HostOutOfMemory`.
+    /// A machine without blocks, budgets and limits, whose blocks are no smaller where memory is short, over a device that has these memory
+    /// types and heaps, and this `bufferImageGranularity`. The errors: `InvalidAllocatorCreateDesc` for the first that holds of a granularity
+    /// that isn't a power of two, more than 32 memory types, and a memory type in a heap that isn't there; else `HostOutOfMemory`.
     pub fn new(
         alloc: Global,
         memory_types: Vec<MemoryTypeInfo>,
@@ -426,10 +426,10 @@ impl<H: Copy + Eq> Machine<H> {
         self.most_blocks
     }
 
-    /// Whether shared blocks are smaller where memory is short: in a heap of at most 1 GB none has more than an eighth of it; where its memory type's
-    /// budget or its heap's limit leaves no room for one, it is as large as they leave; and where the driver has none, half of it is asked for,
-    /// then a quarter, before another memory type. A request that is above the smaller block asks for a block of its own. It takes no host
-    /// memory. `Internal` while a question is open; then nothing changes.
+    /// Whether shared blocks are smaller where memory is short: in a heap of at most 1 GB none has more than an eighth of it, or 4 MB; where its
+    /// memory type's budget or its heap's limit leaves no room for one, it is as large as they leave; and where the driver has none, half of it
+    /// is asked for, then a quarter, before another memory type. A request that is above the smaller block asks for a block of its own. It
+    /// takes no host memory. `Internal` while a question is open; then nothing changes.
     pub fn set_smaller_blocks(&mut self, smaller_blocks: bool) -> Result<()>
         ensures { SetsSmallerBlocks self.old smaller_blocks result self.new }
     {

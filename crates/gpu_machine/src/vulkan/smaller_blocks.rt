@@ -26,7 +26,7 @@ pub enum Portion {
     Quarter,
 }
 
-/// The sizes of the shared blocks of a heap of `heap` bytes: in a small heap no block has more than an eighth of it.
+/// The sizes of the shared blocks of a heap of `heap` bytes: in a small heap no block has more than an eighth of it, or 4 MB.
 pub fn sizes_in_heap(sizes: AllocationSizes, heap: u64) -> AllocationSizes
     ensures { result ≡ sizes_in_heap sizes heap }
 {
