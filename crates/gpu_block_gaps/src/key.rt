@@ -19,11 +19,12 @@ impl Key {
         requires { bit < 128 }
         ensures { result ≡ bit_of (code_of self) bit }
     {
-        if bit < START_BITS {
-            self.start >> bit & 1 == 1
+        let word = if bit < START_BITS {
+            self.start
         } else {
-            self.length >> (bit - START_BITS) & 1 == 1
-        }
+            self.length
+        };
+        word >> (bit % START_BITS) & 1 == 1
     }
 
     /// The highest bit in which two keys differ.

@@ -52,11 +52,8 @@ impl Fork {
         ensures is { result ≡ (if set then self.now.one else self.now.zero) }
         ensures small { IsSmall result }
     {
-        if set {
-            self.one.node()
-        } else {
-            self.zero.node()
-        }
+        let packed = if set { self.one } else { self.zero };
+        packed.node()
     }
 
     /// The fork with another branch of the keys with the bit, or of those without it.
@@ -233,11 +230,10 @@ pub fn place_of(forks: &[Fork], node: Node, key: Key, bit: u32) -> Place
 }
 
 /// Takes the leaf to which the bits of a key lead out of the tree at a fork, along whose branch of the key there is another fork.
-fn remove_below(forks: &mut [Fork], slot: u32, fork: Fork, set: bool, below: u32, key: Key) -> Gone
+fn remove_below(forks: &mut [Fork], slot: u32, below: u32, key: Key) -> Gone
     requires laid { (t : Tree) × Lays (slice_get forks.old) 128 (Node.Branch slot) t }
-    requires read { slice_get forks.old slot ≡ Some fork }
-    requires set { set ≡ bit_of (code_of key) fork.bit }
-    requires deeper { (if set then fork.one else fork.zero) ≡ Node.Branch below }
+    requires deeper { (f : Fork) × (slice_get forks.old slot ≡ Some f)
+        × ((if bit_of (code_of key) f.bit then f.one else f.zero) ≡ Node.Branch below) }
     ensures tree { (at : ℕ → ℕ) (top : ℕ) (t : Tree)
         → Lays (slice_get forks.old) top (Node.Branch slot) t → Sorted at t
         → HasPruned (slice_get forks.old) (slice_get forks.new) top (Node.Branch slot) t
@@ -249,10 +245,12 @@ fn remove_below(forks: &mut [Fork], slot: u32, fork: Fork, set: bool, below: u32
     let on = key.is_set(next.bit);
     match next.branch(on) {
         Node::Leaf(leaf) => {
+            let fork = fork_in(forks, slot);
+            let set = key.is_set(fork.bit);
             put(forks, slot, fork.with_branch(set, next.branch(!on)));
             Gone { slot: below, leaf }
         }
-        Node::Branch(deeper) => remove_below(forks, below, next, on, deeper, key),
+        Node::Branch(deeper) => remove_below(forks, below, deeper, key),
     }
 }
 
@@ -277,7 +275,7 @@ pub fn remove(forks: &mut [Fork], slot: u32, key: Key) -> Cut
             leaf,
         },
         Node::Branch(below) => {
-            let gone = remove_below(forks, slot, fork, set, below, key);
+            let gone = remove_below(forks, slot, below, key);
             Cut {
                 node: Node::Branch(slot),
                 slot: gone.slot,
