@@ -148,7 +148,7 @@ module _ (t : Threaded) (f : Forest) (trees : List (Option Tree)) (are : AreInde
         fits_all : code g < 2 ^ 128
         fits_all = code_fits g.length g.start short.0 short.1
 
-        made : AreIndexed (record { order = insert t.order p s; gaps = set t.gaps s g }) f' (set trees (class_in f.scale (code g)) (Some new))
+        made : AreIndexed (record { order = insert t.order p s; gaps = set t.gaps s g; vacant = t'.vacant }) f' (set trees (class_in f.scale (code g)) (Some new))
         made = record {
           forest = forest';
           ordered = subst (λ d. AreInOrder (key_in (set t.gaps s g)) d (set trees (class_in f.scale (code g)) (Some new)) (insert t.order p s)) (sym room.0)
@@ -165,8 +165,8 @@ module _ (t : Threaded) (f : Forest) (trees : List (Option Tree)) (are : AreInde
         pub put_indexed : IsIndexed t' f'
         put_indexed = (
           set trees (class_in f.scale (code g)) (Some new),
-          subst (λ (xs : List ℕ). AreIndexed (record { order = xs; gaps = t'.gaps }) f' (set trees (class_in f.scale (code g)) (Some new))) (sym order')
-              (subst (λ (gs : List Gap). AreIndexed (record { order = insert t.order p s; gaps = gs }) f' (set trees (class_in f.scale (code g)) (Some new))) (sym gaps') made),
+          subst (λ (xs : List ℕ). AreIndexed (record { order = xs; gaps = t'.gaps; vacant = t'.vacant }) f' (set trees (class_in f.scale (code g)) (Some new))) (sym order')
+              (subst (λ (gs : List Gap). AreIndexed (record { order = insert t.order p s; gaps = gs; vacant = t'.vacant }) f' (set trees (class_in f.scale (code g)) (Some new))) (sym gaps') made),
         )
 
         pub put_inserted : IsInserted (gaps_of t) g (gaps_of t')
@@ -209,7 +209,7 @@ module _ (t : Threaded) (f : Forest) (trees : List (Option Tree)) (are : AreInde
     module _ (t' : Threaded) (f' : Forest) (u : Tree) (rest : Option Tree) (is : tree_at trees (class_in f.scale (size * 2 ^ 64 + start)) ≡ Some u) (room : KeepsRoom f f')
         (order' : t'.order ≡ remove t.order has.at) (gaps' : t'.gaps ≡ t.gaps) (fits_size : size < 2 ^ 64) (fits_start : start < 2 ^ 64) (some : 0 < length t.gaps)
         (forest' : IsForest (key_in t.gaps) f' (set trees (class_in f.scale (size * 2 ^ 64 + start)) rest)) (loses : LosesLeaf (near (size * 2 ^ 64 + start) u) u rest) where
-      left : AreIndexed (record { order = remove t.order has.at; gaps = t.gaps }) f' (set trees (class_in f.scale (size * 2 ^ 64 + start)) rest)
+      left : AreIndexed (record { order = remove t.order has.at; gaps = t.gaps; vacant = t'.vacant }) f' (set trees (class_in f.scale (size * 2 ^ 64 + start)) rest)
       left = record {
         forest = forest';
         ordered = subst (λ d. AreInOrder (key_in t.gaps) d (set trees (class_in f.scale (size * 2 ^ 64 + start)) rest) (remove t.order has.at)) (sym room.0)
@@ -223,8 +223,8 @@ module _ (t : Threaded) (f : Forest) (trees : List (Option Tree)) (are : AreInde
       pub take_indexed : IsIndexed t' f'
       take_indexed = (
         set trees (class_in f.scale (size * 2 ^ 64 + start)) rest,
-        subst (λ (xs : List ℕ). AreIndexed (record { order = xs; gaps = t'.gaps }) f' (set trees (class_in f.scale (size * 2 ^ 64 + start)) rest)) (sym order')
-            (subst (λ (gs : List Gap). AreIndexed (record { order = remove t.order has.at; gaps = gs }) f' (set trees (class_in f.scale (size * 2 ^ 64 + start)) rest)) (sym gaps') left),
+        subst (λ (xs : List ℕ). AreIndexed (record { order = xs; gaps = t'.gaps; vacant = t'.vacant }) f' (set trees (class_in f.scale (size * 2 ^ 64 + start)) rest)) (sym order')
+            (subst (λ (gs : List Gap). AreIndexed (record { order = remove t.order has.at; gaps = gs; vacant = t'.vacant }) f' (set trees (class_in f.scale (size * 2 ^ 64 + start)) rest)) (sym gaps') left),
       )
 
       pub take_removed : IsRemoved (gaps_of t) size start (gaps_of t')

@@ -208,8 +208,8 @@ module _ (t : Threaded) (f : Forest) (trees : List (Option Tree)) (are : AreInde
   gap_moved t' f' room order' gaps' forest' = (
     (
       set without (class_in f.scale (code g)) (Some (tip s)),
-      subst (λ (xs : List ℕ). AreIndexed (record { order = xs; gaps = t'.gaps }) f' (set without (class_in f.scale (code g)) (Some (tip s)))) (sym order')
-          (subst (λ (gs : List Gap). AreIndexed (record { order = t.order; gaps = gs }) f' (set without (class_in f.scale (code g)) (Some (tip s)))) (sym gaps') new),
+      subst (λ (xs : List ℕ). AreIndexed (record { order = xs; gaps = t'.gaps; vacant = t'.vacant }) f' (set without (class_in f.scale (code g)) (Some (tip s)))) (sym order')
+          (subst (λ (gs : List Gap). AreIndexed (record { order = t.order; gaps = gs; vacant = t'.vacant }) f' (set without (class_in f.scale (code g)) (Some (tip s)))) (sym gaps') new),
     ),
     subst (λ (gs : List Gap). IsReplaced (gaps_of t) size start g gs) (sym (ap (λ (gs : List Gap). map (gap_in gs) t'.order) gaps' ∙ ap (map (gap_in (set t.gaps s g))) order'))
         (subst (λ m. IsReplaced (gaps_of t) size start g (map (gap_in (set t.gaps m g)) t.order)) slot (replaced t f trees are size start has g (subst (λ m. m < length t.gaps) (sym slot) inside))),
@@ -219,7 +219,7 @@ module _ (t : Threaded) (f : Forest) (trees : List (Option Tree)) (are : AreInde
       short_now l is (inl e) = subst (λ (a : Gap). IsShort a) (sym (ap (gap_in (set t.gaps s g)) e ∙ now_at)) short
       short_now l is (inr other) = subst (λ (a : Gap). IsShort a) (sym (get_or-set_other t.gaps s l g blank other)) (are.short l is)
 
-      new : AreIndexed (record { order = t.order; gaps = set t.gaps s g }) f' (set without (class_in f.scale (code g)) (Some (tip s)))
+      new : AreIndexed (record { order = t.order; gaps = set t.gaps s g; vacant = t'.vacant }) f' (set without (class_in f.scale (code g)) (Some (tip s)))
       new = record {
         forest = forest';
         ordered = subst (λ d. AreInOrder (key_in (set t.gaps s g)) d (set without (class_in f.scale (code g)) (Some (tip s))) t.order) (sym room.0) ordered;

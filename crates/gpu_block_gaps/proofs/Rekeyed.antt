@@ -114,8 +114,8 @@ module _ (t : Threaded) (f : Forest) (trees : List (Option Tree)) (are : AreInde
       by_cases (inr x) (inl y) = let more = below a in_a x.0 (subst (λ m. key_in t.gaps a < key_in t.gaps m) y.0 less) in let e = x.1 in let h = y.1 in omega arith
       by_cases (inr x) (inr y) = let e = x.1 in let h = y.1 in omega arith
 
-  pub rekeyed : AreIndexed (record { order = t.order; gaps = set t.gaps s g }) f trees
-  rekeyed = record {
+  pub rekeyed : (vacant : ℕ) → AreIndexed (record { order = t.order; gaps = set t.gaps s g; vacant = vacant }) f trees
+  rekeyed vacant = record {
     forest = forest';
     ordered = record {
       sorted = λ i j d lt within. still_less (get_or t.order i d) (get_or t.order j d) (i, omega arith, get_or_default t.order i 0 d (omega arith)) (j, within, get_or_default t.order j 0 d within) (are.ordered.sorted i j d lt within);
@@ -191,8 +191,8 @@ module _ (t : Threaded) (f : Forest) (trees : List (Option Tree)) (are : AreInde
       let within = inside s in_order in
       let alone' : tree_at trees (class_in f.scale (key_in t.gaps s)) ≡ Some (tip s) = ap (λ n. tree_at trees (class_in f.scale n)) key ∙ alone ∙ ap (λ l. Some (tip l)) (sym the_slot) in
       let gaps'' : t'.gaps ≡ set t.gaps s g = gaps' ∙ ap (λ l. set t.gaps l g) (sym the_slot) in
-      let new = rekeyed t f trees are s in_order within g short (class ∙ ap (class_in f.scale) (sym key)) alone' in (
-        (trees, subst (λ (xs : List ℕ). AreIndexed (record { order = xs; gaps = t'.gaps }) f trees) (sym order') (subst (λ (gs : List Gap). AreIndexed (record { order = t.order; gaps = gs }) f trees) (sym gaps'') new)),
+      let new = rekeyed t f trees are s in_order within g short (class ∙ ap (class_in f.scale) (sym key)) alone' t'.vacant in (
+        (trees, subst (λ (xs : List ℕ). AreIndexed (record { order = xs; gaps = t'.gaps; vacant = t'.vacant }) f trees) (sym order') (subst (λ (gs : List Gap). AreIndexed (record { order = t.order; gaps = gs; vacant = t'.vacant }) f trees) (sym gaps'') new)),
         subst (λ (gs : List Gap). IsReplaced (gaps_of t) size start g gs)
             (sym (ap (λ (gs : List Gap). map (gap_in gs) t'.order) gaps'' ∙ ap (map (gap_in (set t.gaps s g))) order')) (replaced t f trees are size start has g within),
       )

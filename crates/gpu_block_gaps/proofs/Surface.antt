@@ -42,10 +42,10 @@ before_by_code a b short_a short_b less = by_length (cases_lt a.length b.length)
 pub none_indexed : (t : Threaded) (f : Forest) → t.order ≡ [] → t.gaps ≡ [] → IsForest (key_in []) f [] → IsIndexed t f
 none_indexed t f order gaps forest = (
   [],
-  subst (λ (xs : List ℕ). AreIndexed (record { order = xs; gaps = t.gaps }) f []) (sym order) (subst (λ (gs : List Gap). AreIndexed (record { order = []; gaps = gs }) f []) (sym gaps) base),
+  subst (λ (xs : List ℕ). AreIndexed (record { order = xs; gaps = t.gaps; vacant = t.vacant }) f []) (sym order) (subst (λ (gs : List Gap). AreIndexed (record { order = []; gaps = gs; vacant = t.vacant }) f []) (sym gaps) base),
 )
   where
-    base : AreIndexed (record { order = []; gaps = [] }) f []
+    base : AreIndexed (record { order = []; gaps = []; vacant = t.vacant }) f []
     base = record {
       forest = forest;
       ordered = record {
@@ -88,7 +88,7 @@ module _ (t : Threaded) (f : Forest) (trees : List (Option Tree)) (are : AreInde
   -- more room for gaps
   pub thread_reserved : (t' : Threaded) → t'.order ≡ t.order → ((k : ℕ) → gap_in t'.gaps k ≡ gap_in t.gaps k) → length t'.gaps ≤ vec_len f.forks + 1 → IsWide f → AreIndexed t' f trees
   thread_reserved t' order gaps few wide =
-      subst (λ (xs : List ℕ). AreIndexed (record { order = xs; gaps = t'.gaps }) f trees) (sym order) (record {
+      subst (λ (xs : List ℕ). AreIndexed (record { order = xs; gaps = t'.gaps; vacant = t'.vacant }) f trees) (sym order) (record {
         forest = trees_rekeyed (key_in t.gaps) (key_in t'.gaps) f.scale f.forks.items f.spare.items (vec_capacity f.spare) f.roots.items f.classes trees (λ c l has. ap code (gaps l)) are.forest;
         ordered = order_kept (key_in t.gaps) (key_in t'.gaps) f.scale trees trees t.order ((λ c. refl), refl) (λ l is. ap code (gaps l)) are.ordered;
         slots = few;

@@ -1,5 +1,5 @@
 -- Records that are threaded.
-use Rattle.std.proofs.Common.{◌≡◌, ◌≢◌, ℕ, zero, suc, ◌+◌, ◌^◌, ◌<◌, ◌≤◌, List, [], ◌∷◌, ◌++◌, length, get_or, set, map, All, ◌⊎◌, inl, inr, refl, sym, ap, subst, ◌∙◌, arith}
+use Rattle.std.proofs.Common.{◌≡◌, ◌≢◌, ℕ, zero, suc, ◌+◌, ◌-◌, ◌^◌, ◌<◌, ◌≤◌, List, [], ◌∷◌, ◌++◌, length, get_or, set, map, All, ◌⊎◌, inl, inr, refl, sym, ap, subst, ◌∙◌, arith}
 use Rattle.std.specs.List.{insert, remove}
 use Rattle.std.proofs.lemmas.Bool.{cases_lt, cases_eq}
 use Rattle.std.proofs.lemmas.List.{map-set, set-get_or, get_or-map, get_or_default, get_or_past, get_or_push, get_or_append_left, get_or_at, length-append, length-map}
@@ -11,7 +11,7 @@ use Rattle.gpu_block_gaps.proofs.Positions.{in_insert_cases, in_removed, all_pai
 use Rattle.gpu_block_gaps.specs.declared.index.Gap.{Gap}
 use Rattle.gpu_block_gaps.specs.declared.thread.Record.{Record}
 use Rattle.gpu_block_gaps.specs.Thread.{blank, gap_in}
-use Rattle.gpu_block_gaps.specs.Records.{follow, blank_record, gap_of, next_in, prev_in, order_of, AreLinked, AreThreaded, IsThread, IsSpare, LeadsTo, LeadsThrough}
+use Rattle.gpu_block_gaps.specs.Records.{follow, blank_record, gap_of, last_of, next_in, prev_in, order_of, AreLinked, AreThreaded, IsThread, IsSpare, LeadsTo, LeadsThrough}
 use Rattle.gpu_block_gaps.proofs.Rings.{follow_is, linked_more, linked_less}
 
 -- a record with its gap as before
@@ -52,6 +52,9 @@ module _ (rs : List Record) (spare : List ℕ) (room : ℕ) (order : List ℕ) (
       by_zero (suc m) e = omega arith
 
 -- ---- a gap more
+
+pub last_is : (spare : List ℕ) (s : ℕ) → last_of (spare ++ s ∷ []) ≡ s
+last_is spare s = get_or_push spare s 0 (length (spare ++ s ∷ []) - 1) (let a = length-append spare (s ∷ []) in omega arith)
 
 module _ (rs rs' : List Record) (spare : List ℕ) (s room : ℕ) (order : List ℕ) (are : AreThreaded rs (spare ++ s ∷ []) room order) where
   spare_long : length (spare ++ s ∷ []) ≡ length spare + 1
@@ -225,9 +228,6 @@ module _ (rs old rs' : List Record) (spare0 spare' : List ℕ) (s room room' nex
 
   pub some : 0 < length rs
   some = let free = slot_free rs rs' spare' s room order threaded in let a = free.1 in omega arith
-
-  pub new_slot : IsSpare (λ slot. IsIn slot order) (length rs) s
-  new_slot = slot_free rs rs' spare' s room order threaded
 
   pub next_at : (next < length rs) × (next ≢ s)
   next_at = (

@@ -14,6 +14,10 @@ blank_record = record { gap = blank; prev = 0; next = 0 }
 abbrev pub gap_of : Record → Gap
 gap_of r = r.gap
 
+-- the last of a list, 0 where it is empty
+abbrev pub last_of : List ℕ → ℕ
+last_of slots = slice_index slots (length slots - 1)
+
 -- the slot behind one, by its record
 abbrev pub next_in : List Record → ℕ → ℕ
 next_in rs slot = (slice_index_or rs slot blank_record).next

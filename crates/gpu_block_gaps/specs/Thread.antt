@@ -3,10 +3,11 @@ use Rattle.std.specs.Prelude.{ℕ, List, slice_index_or}
 use Rattle.gpu_values.specs.declared.allocation_type.AllocationType.TheVariants.{Free}
 use Rattle.gpu_block_gaps.specs.declared.index.Gap.{Gap}
 
--- the slots of the gaps in their order, and the gap or what was left of one in each slot
+-- the slots of the gaps in their order, the gap or what was left of one in each slot, and the slot that the next gap gets
 pub record Threaded : Type 0 where
   pub order : List ℕ
   pub gaps : List Gap
+  pub vacant : ℕ
 
 -- what a slot has that never had a gap
 abbrev pub blank : Gap

@@ -236,8 +236,9 @@ impl Forest {
     }
 
     /// Puts a leaf into the tree of its class. Its key differs in that bit from the key to which its bits lead, and in none above it.
+    /// Returns the leaf beside which it is then.
     #[inline(always)]
-    pub fn insert_beside(&mut self, key: Key, class: usize, bit: u32, leaf: u32)
+    pub fn insert_beside(&mut self, key: Key, class: usize, bit: u32, leaf: u32) -> Place
         requires there { HasTree self.old (code_of key) }
         requires class { class ≡ class_in self.old.scale (code_of key) }
         requires bit { bit < 128 }
@@ -249,14 +250,19 @@ impl Forest {
             → IsSplit at t (code_of key) bit
             → (grows : Tree) × IsForest at self.new (slice_set trees c (Some grows))
             × AddsLeaf leaf t grows }
+        ensures place { (at : ℕ → ℕ) (trees : List (Option Tree)) (t : Tree)
+            → IsForest at self.old trees
+            → tree_at trees (class_in self.old.scale (code_of key)) ≡ Some t
+            → IsSplit at t (code_of key) bit → IsPlace at (code_of key) (leaves_of t) result }
         ensures room { KeepsRoom self.old self.new }
     {
         let node = self.root_of(class);
         let Some(slot) = self.spare.pop() else {
             unreachable!()
         };
-        let root = insert(&mut self.forks, node, key, bit, leaf, slot);
-        self.roots[class] = Root::at(root);
+        let grown = insert(&mut self.forks, node, key, bit, leaf, slot);
+        self.roots[class] = Root::at(grown.node);
+        grown.place
     }
 
     /// Takes the leaf to which the bits of a key lead out of the tree of its class.

@@ -98,11 +98,19 @@ pub fn next_from(thread: &Thread, forest: &Forest, key: Key, class: usize, nearb
     }
 }
 
-/// Puts a slot into the tree of its key's class.
+/// Puts a slot into the tree of its key's class. Returns the slot of the first gap behind the key, 0 where there is none.
 #[inline(always)]
-fn plant(forest: &mut Forest, key: Key, class: usize, nearby: Nearby, slot: u32)
-    requires there { (at : ℕ → ℕ) × (trees : List (Option Tree)) × IsForest at forest.old trees
-        × IsNearby at forest.old.scale trees (code_of key) nearby }
+fn plant(
+    thread: &Thread,
+    forest: &mut Forest,
+    key: Key,
+    class: usize,
+    nearby: Nearby,
+    slot: u32,
+) -> u32
+    requires indexed { IsIndexed thread.now forest.old }
+    requires near { (trees : List (Option Tree)) → AreIndexed thread.now forest.old trees
+        → IsNearby (key_in thread.now.gaps) forest.old.scale trees (code_of key) nearby }
     requires class { class ≡ class_in forest.old.scale (code_of key) }
     requires new { (other : ℕ) → nearby ≢ Nearby.Same other }
     requires wide { IsWide forest.old }
@@ -113,11 +121,23 @@ fn plant(forest: &mut Forest, key: Key, class: usize, nearby: Nearby, slot: u32)
         → let c = class_in forest.old.scale (code_of key)
         in (new : Tree) × IsForest at forest.new (slice_set trees c (Some new))
         × Gains trees c slot new }
+    ensures next { (place : ℕ) → IsPlaceIn (key_in thread.now.gaps) thread.now.order (code_of key) place
+        → result ≡ slice_index thread.now.order place }
     ensures room { KeepsRoom forest.old forest.new }
 {
     match nearby {
-        Nearby::Nothing => forest.insert_first(key, class, slot),
-        Nearby::Apart(bit) => forest.insert_beside(key, class, bit, slot),
+        Nearby::Nothing => {
+            let next = forest.first_later(class);
+            forest.insert_first(key, class, slot);
+            match next {
+                Some(later) => later,
+                None => 0,
+            }
+        }
+        Nearby::Apart(bit) => match forest.insert_beside(key, class, bit, slot) {
+            Place::Before(leaf) => leaf,
+            Place::After(leaf) => thread.next(leaf),
+        },
         Nearby::Same(_) => unreachable!(),
     }
 }
@@ -136,9 +156,9 @@ pub fn put(thread: &mut Thread, forest: &mut Forest, gap: Gap, class: usize)
 {
     let key = key_of(&gap);
     let nearby = look_near(thread, forest, key, class);
-    let next = next_from(thread, forest, key, class, nearby);
-    let slot = thread.insert(gap, next);
-    plant(forest, key, class, nearby, slot);
+    let slot = thread.vacant();
+    let next = plant(thread, forest, key, class, nearby, slot);
+    thread.insert(gap, next);
 }
 
 /// Takes the gap of a key out of its slot, of the order and of the tree of its class.

@@ -31,13 +31,14 @@ pub struct Thread {
 impl Model for Thread {
     ghost use Rattle.std.specs.Prelude.{map, vec_capacity};
     ghost use Rattle.gpu_block_gaps.specs.Thread.{Threaded};
-    ghost use Rattle.gpu_block_gaps.specs.Records.{gap_of, order_of, IsThread};
+    ghost use Rattle.gpu_block_gaps.specs.Records.{gap_of, last_of, order_of, IsThread};
 
     ghost Value = { Threaded };
 
     ghost view = { λ s. record {
       order = order_of s.records.items;
       gaps = map gap_of s.records.items;
+      vacant = last_of s.spare.items;
     } };
 
     ghost invariant = { λ s. IsThread s.records.items s.spare.items (vec_capacity s.spare) };
@@ -235,24 +236,31 @@ impl Thread {
         Ok(())
     }
 
-    /// Puts a gap into a slot, and into the order before the one in the slot `next`, or at the end where that is 0.
-    pub fn insert(&mut self, gap: Gap, next: u32) -> u32
+    /// The slot that the next gap gets. There is room for one.
+    pub fn vacant(&self) -> u32
+        requires { length self.now.order + 1 < length self.now.gaps }
+        ensures is { result ≡ self.now.vacant }
+        ensures free { (0 < result) × (result < length self.now.gaps)
+            × (IsIn result self.now.order → ⊥) }
+        ensures few { result + 1 < 2 ^ 31 }
+    {
+        self.spare[self.spare.len() - 1]
+    }
+
+    /// Puts a gap into the vacant slot, and into the order before the one in the slot `next`, or at the end where that is 0.
+    pub fn insert(&mut self, gap: Gap, next: u32)
         requires room { length self.old.order + 1 < length self.old.gaps }
         requires there { (k : ℕ) × (k ≤ length self.old.order)
             × (next ≡ slice_index self.old.order k) }
         ensures order { (k : ℕ) → k ≤ length self.old.order → next ≡ slice_index self.old.order k
-            → self.new.order ≡ insert self.old.order k result }
-        ensures gaps { self.new.gaps ≡ slice_set self.old.gaps result gap }
-        ensures slot { (0 < result) × (result < length self.old.gaps)
-            × (IsIn result self.old.order → ⊥) }
-        ensures few { result + 1 < 2 ^ 31 }
+            → self.new.order ≡ insert self.old.order k self.old.vacant }
+        ensures gaps { self.new.gaps ≡ slice_set self.old.gaps self.old.vacant gap }
     {
         let Some(slot) = self.spare.pop() else {
             unreachable!()
         };
         let prev = self.records[next as usize].prev();
         link(&mut self.records, slot, Record { gap, prev, next });
-        slot
     }
 
     /// Puts another gap into a slot, which stays where it is in the order.

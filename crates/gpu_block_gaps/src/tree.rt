@@ -31,6 +31,13 @@ pub enum Place {
     After(u32),
 }
 
+/// What stands at a node with one leaf more, and the leaf beside which that one is.
+#[derive(Clone, Copy)]
+pub struct Grown {
+    pub node: Node,
+    pub place: Place,
+}
+
 /// What stands at a node without a leaf, the slot of the fork that is no longer used, and the leaf.
 #[derive(Clone, Copy)]
 pub struct Cut {
@@ -156,59 +163,6 @@ pub fn nearest(forks: &[Fork], node: Node, key: Key) -> u32
     }
 }
 
-/// Puts a leaf into the tree at a fork above that bit, by a fork in a slot: it goes beside the part from which its key differs in that bit,
-/// and in none above it.
-fn insert_below(forks: &mut [Fork], above: u32, key: Key, bit: u32, leaf: u32, slot: u32)
-    requires laid { (t : Tree) × Lays (slice_get forks.old) 128 (Node.Branch above) t }
-    requires slot { (slot < length forks.old) × (slot < 2 ^ 31) }
-    requires leaf { leaf + 1 < 2 ^ 31 }
-    requires bit { bit < 128 }
-    requires higher { (f : Fork) × (slice_get forks.old above ≡ Some f) × (bit < f.bit) }
-    ensures { (at : ℕ → ℕ) (top : ℕ) (t : Tree)
-        → CanGrow at (slice_get forks.old) top (Node.Branch above) t (code_of key) bit slot
-        → HasGrown (slice_get forks.old) (slice_get forks.new) top (Node.Branch above) t
-        (grown (code_of key) bit leaf slot t) slot }
-{
-    let fork = fork_in(forks, above);
-    let set = key.is_set(fork.bit);
-    let branch = fork.branch(set);
-    if let Node::Branch(below) = branch {
-        if bit < fork_in(forks, below).bit {
-            insert_below(forks, below, key, bit, leaf, slot);
-            return;
-        }
-    }
-    put(
-        forks,
-        slot,
-        Fork::beside(bit, key.is_set(bit), branch, leaf),
-    );
-    put(forks, above, fork.with_branch(set, Node::Branch(slot)));
-}
-
-/// Puts a leaf into a tree beside the part from which its key differs in that bit, and in none above it, by a fork in a slot.
-pub fn insert(forks: &mut [Fork], node: Node, key: Key, bit: u32, leaf: u32, slot: u32) -> Node
-    requires laid { (t : Tree) × Lays (slice_get forks.old) 128 node t }
-    requires node { IsSmall node }
-    requires slot { (slot < length forks.old) × (slot < 2 ^ 31) }
-    requires leaf { leaf + 1 < 2 ^ 31 }
-    requires bit { bit < 128 }
-    ensures small { IsSmall result }
-    ensures grown { (at : ℕ → ℕ) (top : ℕ) (t : Tree)
-        → CanGrow at (slice_get forks.old) top node t (code_of key) bit slot
-        → HasGrown (slice_get forks.old) (slice_get forks.new) top result t
-        (grown (code_of key) bit leaf slot t) slot }
-{
-    if let Node::Branch(at) = node {
-        if bit < fork_in(forks, at).bit {
-            insert_below(forks, at, key, bit, leaf, slot);
-            return node;
-        }
-    }
-    put(forks, slot, Fork::beside(bit, key.is_set(bit), node, leaf));
-    Node::Branch(slot)
-}
-
 /// The place of a key that differs in that bit from the key to which its bits lead, and in none above it.
 pub fn place_of(forks: &[Fork], node: Node, key: Key, bit: u32) -> Place
     requires laid { (t : Tree) × Lays (slice_get forks.now) 128 node t }
@@ -226,6 +180,70 @@ pub fn place_of(forks: &[Fork], node: Node, key: Key, bit: u32) -> Place
         Place::After(last(forks, node))
     } else {
         Place::Before(first(forks, node))
+    }
+}
+
+/// Puts a leaf into the tree at a fork above that bit, by a fork in a slot: it goes beside the part from which its key differs in that bit,
+/// and in none above it. Returns the leaf beside which it is then.
+fn insert_below(forks: &mut [Fork], above: u32, key: Key, bit: u32, leaf: u32, slot: u32) -> Place
+    requires laid { (t : Tree) × Lays (slice_get forks.old) 128 (Node.Branch above) t }
+    requires slot { (slot < length forks.old) × (slot < 2 ^ 31) }
+    requires leaf { leaf + 1 < 2 ^ 31 }
+    requires bit { bit < 128 }
+    requires higher { (f : Fork) × (slice_get forks.old above ≡ Some f) × (bit < f.bit) }
+    ensures grown { (at : ℕ → ℕ) (top : ℕ) (t : Tree)
+        → CanGrow at (slice_get forks.old) top (Node.Branch above) t (code_of key) bit slot
+        → HasGrown (slice_get forks.old) (slice_get forks.new) top (Node.Branch above) t
+        (grown (code_of key) bit leaf slot t) slot }
+    ensures place { (at : ℕ → ℕ) (t : Tree)
+        → Lays (slice_get forks.old) 128 (Node.Branch above) t → IsSplit at t (code_of key) bit
+        → IsPlace at (code_of key) (leaves_of t) result }
+{
+    let fork = fork_in(forks, above);
+    let set = key.is_set(fork.bit);
+    let branch = fork.branch(set);
+    if let Node::Branch(below) = branch {
+        if bit < fork_in(forks, below).bit {
+            return insert_below(forks, below, key, bit, leaf, slot);
+        }
+    }
+    let place = place_of(forks, branch, key, bit);
+    put(
+        forks,
+        slot,
+        Fork::beside(bit, key.is_set(bit), branch, leaf),
+    );
+    put(forks, above, fork.with_branch(set, Node::Branch(slot)));
+    place
+}
+
+/// Puts a leaf into a tree beside the part from which its key differs in that bit, and in none above it, by a fork in a slot.
+pub fn insert(forks: &mut [Fork], node: Node, key: Key, bit: u32, leaf: u32, slot: u32) -> Grown
+    requires laid { (t : Tree) × Lays (slice_get forks.old) 128 node t }
+    requires node { IsSmall node }
+    requires slot { (slot < length forks.old) × (slot < 2 ^ 31) }
+    requires leaf { leaf + 1 < 2 ^ 31 }
+    requires bit { bit < 128 }
+    ensures small { IsSmall result.node }
+    ensures grown { (at : ℕ → ℕ) (top : ℕ) (t : Tree)
+        → CanGrow at (slice_get forks.old) top node t (code_of key) bit slot
+        → HasGrown (slice_get forks.old) (slice_get forks.new) top result.node t
+        (grown (code_of key) bit leaf slot t) slot }
+    ensures place { (at : ℕ → ℕ) (t : Tree) → Lays (slice_get forks.old) 128 node t
+        → IsSplit at t (code_of key) bit
+        → IsPlace at (code_of key) (leaves_of t) result.place }
+{
+    if let Node::Branch(at) = node {
+        if bit < fork_in(forks, at).bit {
+            let place = insert_below(forks, at, key, bit, leaf, slot);
+            return Grown { node, place };
+        }
+    }
+    let place = place_of(forks, node, key, bit);
+    put(forks, slot, Fork::beside(bit, key.is_set(bit), node, leaf));
+    Grown {
+        node: Node::Branch(slot),
+        place,
     }
 }
 

@@ -5,11 +5,12 @@ use Rattle.gpu_block_gaps.specs.declared.tree.Node.{Node}
 use Rattle.gpu_block_gaps.specs.declared.tree.Node.TheVariants.{Leaf, Branch}
 use Rattle.gpu_block_gaps.specs.declared.tree.Fork.{Fork}
 use Rattle.gpu_block_gaps.specs.Key.{code_of, bit_of}
-use Rattle.gpu_block_gaps.specs.Tree.{Tree, tip, fork, Slots, Lays, grown, CanGrow, HasGrown}
+use Rattle.gpu_block_gaps.specs.Tree.{Tree, tip, fork, Slots, Lays, leaves_of, grown, CanGrow, HasGrown, IsSplit, IsPlace}
 use Rattle.gpu_block_gaps.proofs.Trees.{fork_at, fork_read, lays_under, rank, falls, lays_branch}
 use Rattle.gpu_block_gaps.proofs.Shapes.{fork_of}
 use Rattle.gpu_block_gaps.proofs.Laying.{can_branch, grew_branch, grew_tip, grew_stop}
 use Rattle.gpu_block_gaps.proofs.Below.{grew_deep}
+use Rattle.gpu_block_gaps.proofs.Places.{split_branch, place_branch}
 use Rattle.gpu_block_gaps.proofs.tree.+insert_below.Goals as goal
 use Rattle.gpu_block_gaps.proofs.tree.+insert_below.Goals.{in_Branch-branch+else-bit-fork_in, in_default-branch}
 
@@ -42,8 +43,8 @@ insert_below-requires t c =
     let smaller : rank slots (Branch c.in_Branch-branch.below) < rank slots (Branch c.args.above) = falls slots c.args.above (Branch c.args.above) f (Branch c.in_Branch-branch.below) _ refl c.fork_in-fork.ensures laid in
     (search rules, ((cond b there.y there.x, lays_under slots f.bit 128 (Branch c.in_Branch-branch.below) _ laid (let below = there.below in omega arith)), (c.requires.slot, (c.requires.leaf, (c.requires.bit, (c.fork_in.result, c.fork_in.ensures, c.if-bit-fork_in.true))))))
 
-pub returns-then-bit-fork_in : goal.returns-then-bit-fork_in
-returns-then-bit-fork_in t c = λ key top u can.
+pub returns-then-bit-fork_in-clause-grown : goal.returns-then-bit-fork_in-clause-grown
+returns-then-bit-fork_in-clause-grown t c = λ key top u can.
     let old = slice_get c.args.forks.now in
     let new = slice_get c.insert_below.new.forks in
     let n = code_of c.args.key in
@@ -55,9 +56,64 @@ returns-then-bit-fork_in t c = λ key top u can.
     let lt : bit < f.bit = subst (λ (g : Fork). bit < g.bit) (same_Some _ _ (sym (c.requires.higher).1 ∙ c.fork_in-fork.ensures)) (c.requires.higher).2 in
     let can' : CanGrow key old top (Branch c.args.above) (fork c.args.above f.bit there.x there.y) n bit c.args.slot = subst (λ z. CanGrow key old top (Branch c.args.above) z n bit c.args.slot) there.is can in
     let below = can_branch key old top (Branch c.args.above) c.args.above f.bit f.zero f.one there.x there.y n bit c.args.slot can' there.left there.right lt in
-    let grew = c.insert_below.ensures key f.bit (cond b there.y there.x) (subst (λ (z : Node). CanGrow key old f.bit z (cond b there.y there.x) n bit c.args.slot) way below) in
+    let grew = c.insert_below.ensures.grown key f.bit (cond b there.y there.x) (subst (λ (z : Node). CanGrow key old f.bit z (cond b there.y there.x) n bit c.args.slot) way below) in
     subst (λ z. HasGrown old new top (Branch c.args.above) z (grown n bit c.args.leaf c.args.slot z) c.args.slot) (sym there.is)
     (grew_deep key old new top c.args.above c.in_Branch-branch.below f there.x there.y n bit c.args.leaf c.args.slot can' there.left there.right lt c.fork_in-fork.ensures way grew)
+
+pub returns-then-bit-fork_in-clause-place : goal.returns-then-bit-fork_in-clause-place
+returns-then-bit-fork_in-clause-place t c = λ key u standing split.
+    let slots = slice_get c.args.forks.now in
+    let n = code_of c.args.key in
+    let f = c.fork_in-fork.result in
+    let there = fork_read slots 128 (Branch c.args.above) u c.args.above f standing refl c.fork_in-fork.ensures in
+    let b = bit_of n f.bit in
+    let way : cond b f.one f.zero ≡ Branch c.in_Branch-branch.below = sym (c.branch-branch.ensures.is ∙ ap (λ set. cond set f.one f.zero) c.is_set-set.ensures) ∙ c.in_Branch-branch.is in
+    let laid : Lays slots f.bit (Branch c.in_Branch-branch.below) (cond b there.y there.x) =
+    subst (λ (n : Node). Lays slots f.bit n (cond b there.y there.x)) way (lays_branch b slots f.bit f.zero f.one there.x there.y there.left there.right) in
+    let lt : c.args.bit < f.bit = subst (λ (g : Fork). c.args.bit < g.bit) (same_Some _ _ (sym (c.requires.higher).1 ∙ c.fork_in-fork.ensures)) (c.requires.higher).2 in
+    let split' : IsSplit key (fork c.args.above f.bit there.x there.y) n c.args.bit = subst (λ z. IsSplit key z n c.args.bit) there.is split in
+    let part = c.insert_below.ensures.place key (cond b there.y there.x) (lays_under slots f.bit 128 (Branch c.in_Branch-branch.below) _ laid (let below = there.below in omega arith))
+    (split_branch key c.args.above f.bit there.x there.y n c.args.bit split' b refl) in
+    subst (λ z. IsPlace key n (leaves_of z) c.insert_below.result) (sym there.is)
+    (place_branch key c.args.above f.bit there.x there.y n c.args.bit c.insert_below.result split' lt b refl part)
+
+pub place_of-place-requires-clause-laid : goal.place_of-place-requires-clause-laid
+place_of-place-requires-clause-laid t c =
+    let slots = slice_get c.args.forks.now in
+    let f = c.fork_in-fork.result in
+    let there = fork_read slots 128 (Branch c.args.above) (c.requires.laid).0 c.args.above f (c.requires.laid).1 refl c.fork_in-fork.ensures in
+    let b = bit_of (code_of c.args.key) f.bit in
+    let same_node : c.match-branch.branch' ≡ c.branch-branch.result =
+    elim c.match-branch.branch [
+      | in_Branch-branch+else-bit-fork_in w ↦ (let a = w.branch'-is in let b = w.in_Branch-branch.is in cc)
+      | in_default-branch w ↦ (let a = w.branch'-is in let b = w.in_default-branch.is in cc)
+    ] in
+    let way : c.match-branch.branch' ≡ cond b f.one f.zero = same_node ∙ c.branch-branch.ensures.is ∙ ap (λ set. cond set f.one f.zero) c.is_set-set.ensures in
+    let laid : Lays slots f.bit c.match-branch.branch' (cond b there.y there.x) =
+    subst (λ (n : Node). Lays slots f.bit n (cond b there.y there.x)) (sym way) (lays_branch b slots f.bit f.zero f.one there.x there.y there.left there.right) in
+    (cond b there.y there.x, lays_under slots f.bit 128 c.match-branch.branch' _ laid (let below = there.below in omega arith))
+
+pub returns-clause-place : goal.returns-clause-place
+returns-clause-place t c = λ key u standing split.
+    let slots = slice_get c.args.forks.now in
+    let n = code_of c.args.key in
+    let f = c.fork_in-fork.result in
+    let there = fork_read slots 128 (Branch c.args.above) u c.args.above f standing refl c.fork_in-fork.ensures in
+    let b = bit_of n f.bit in
+    let same_node : c.match-branch.branch' ≡ c.branch-branch.result =
+    elim c.match-branch.branch [
+      | in_Branch-branch+else-bit-fork_in w ↦ (let a = w.branch'-is in let b = w.in_Branch-branch.is in cc)
+      | in_default-branch w ↦ (let a = w.branch'-is in let b = w.in_default-branch.is in cc)
+    ] in
+    let way : c.match-branch.branch' ≡ cond b f.one f.zero = same_node ∙ c.branch-branch.ensures.is ∙ ap (λ set. cond set f.one f.zero) c.is_set-set.ensures in
+    let laid : Lays slots f.bit c.match-branch.branch' (cond b there.y there.x) =
+    subst (λ (n : Node). Lays slots f.bit n (cond b there.y there.x)) (sym way) (lays_branch b slots f.bit f.zero f.one there.x there.y there.left there.right) in
+    let lt : c.args.bit < f.bit = subst (λ (g : Fork). c.args.bit < g.bit) (same_Some _ _ (sym (c.requires.higher).1 ∙ c.fork_in-fork.ensures)) (c.requires.higher).2 in
+    let split' : IsSplit key (fork c.args.above f.bit there.x there.y) n c.args.bit = subst (λ z. IsSplit key z n c.args.bit) there.is split in
+    let part = c.place_of-place.ensures key (cond b there.y there.x) (lays_under slots f.bit 128 c.match-branch.branch' _ laid (let below = there.below in omega arith))
+    (split_branch key c.args.above f.bit there.x there.y n c.args.bit split' b refl) in
+    subst (λ z. IsPlace key n (leaves_of z) c.place_of-place.result) (sym there.is)
+    (place_branch key c.args.above f.bit there.x there.y n c.args.bit c.place_of-place.result split' lt b refl part)
 
 pub put-requires-2 : goal.put-requires-2
 put-requires-2 t c = let within = slice_get_within c.args.forks.now c.args.above _ c.fork_in-fork.ensures in search rules
@@ -65,8 +121,8 @@ put-requires-2 t c = let within = slice_get_within c.args.forks.now c.args.above
 bit_same : (k j b d : ℕ) (x y v w : Tree) → fork k b x y ≡ fork j d v w → b ≡ d
 bit_same k j b d x y v w same = cc
 
-pub returns : goal.returns
-returns t c = λ key top u can. whole key top u can
+pub returns-clause-grown : goal.returns-clause-grown
+returns-clause-grown t c = λ key top u can. whole key top u can
   where
     n : ℕ
     n = code_of c.args.key

@@ -1,11 +1,11 @@
-use Rattle.std.proofs.Common.{arith, ◌≡◌, ℕ, ◌≤◌, Some, cond, ap, subst, ◌∙◌}
+use Rattle.std.proofs.Common.{arith, ◌≡◌, ℕ, ◌≤◌, Some, cond, sym, ap, subst, ◌∙◌}
 use Rattle.std.specs.List.{slice_get}
 use Rattle.std.proofs.lemmas.Option.{slice_get_within}
 use Rattle.gpu_block_gaps.specs.declared.tree.Node.{Node}
 use Rattle.gpu_block_gaps.specs.declared.tree.Node.TheVariants.{Leaf, Branch}
 use Rattle.gpu_block_gaps.specs.declared.tree.Fork.{Fork}
 use Rattle.gpu_block_gaps.specs.Key.{code_of, bit_of}
-use Rattle.gpu_block_gaps.specs.Tree.{Tree, tip, fork, Slots, grown, CanGrow, HasGrown}
+use Rattle.gpu_block_gaps.specs.Tree.{Tree, tip, fork, Slots, Lays, grown, CanGrow, HasGrown}
 use Rattle.gpu_block_gaps.proofs.Trees.{fork_at, fork_read}
 use Rattle.gpu_block_gaps.proofs.Shapes.{fork_of}
 use Rattle.gpu_block_gaps.proofs.Laying.{grew_tip, grew_stop}
@@ -19,7 +19,29 @@ fork_in-requires c =
 
 pub returns-then-bit-fork_in-clause-grown : goal.returns-then-bit-fork_in-clause-grown
 returns-then-bit-fork_in-clause-grown c = λ key top u can.
-    c.insert_below.ensures key top u (subst (λ (m : Node). CanGrow key (slice_get c.args.forks.now) top m u (code_of c.args.key) c.args.bit c.args.slot) c.in-Branch.is can)
+    c.insert_below-place.ensures.grown key top u (subst (λ (m : Node). CanGrow key (slice_get c.args.forks.now) top m u (code_of c.args.key) c.args.bit c.args.slot) c.in-Branch.is can)
+
+pub returns-then-bit-fork_in-clause-place : goal.returns-then-bit-fork_in-clause-place
+returns-then-bit-fork_in-clause-place c = λ key u standing split.
+    c.insert_below-place.ensures.place key u (subst (λ (m : Node). Lays (slice_get c.args.forks.now) 128 m u) c.in-Branch.is standing) split
+
+pub place_of-place-requires-clause-laid : goal.place_of-place-requires-clause-laid
+place_of-place-requires-clause-laid c =
+    let same_node : c.match-node.node ≡ c.args.node =
+    elim c.match-node.branch [
+      | in-Branch+else-bit-fork_in w ↦ (let a = w.node-is in let b = w.in-Branch.is in cc)
+      | in_default w ↦ (let a = w.node-is in let b = w.in_default.is in cc)
+    ] in
+    ((c.requires.laid).0, subst (λ (m : Node). Lays (slice_get c.args.forks.now) 128 m (c.requires.laid).0) (sym same_node) (c.requires.laid).1)
+
+pub returns-clause-place : goal.returns-clause-place
+returns-clause-place c = λ key u standing split.
+    let same_node : c.match-node.node ≡ c.args.node =
+    elim c.match-node.branch [
+      | in-Branch+else-bit-fork_in w ↦ (let a = w.node-is in let b = w.in-Branch.is in cc)
+      | in_default w ↦ (let a = w.node-is in let b = w.in_default.is in cc)
+    ] in
+    c.place_of-place.ensures key u (subst (λ (m : Node). Lays (slice_get c.args.forks.now) 128 m u) (sym same_node) standing) split
 
 bit_same : (k j b d : ℕ) (x y v w : Tree) → fork k b x y ≡ fork j d v w → b ≡ d
 bit_same k j b d x y v w same = cc

@@ -5,8 +5,8 @@ use Rattle.std.proofs.lemmas.List.{length-map, with_items_is}
 use Rattle.gpu_block_gaps.specs.declared.index.Gap.{Gap}
 use Rattle.gpu_block_gaps.specs.declared.thread.Record.{Record}
 use Rattle.gpu_block_gaps.specs.Thread.{Threaded}
-use Rattle.gpu_block_gaps.specs.Records.{blank_record, gap_of, order_of, IsThread}
-use Rattle.gpu_block_gaps.proofs.Threads.{next_at, prev_at, new_slot, inserted}
+use Rattle.gpu_block_gaps.specs.Records.{blank_record, gap_of, last_of, order_of, IsThread}
+use Rattle.gpu_block_gaps.proofs.Threads.{last_is, next_at, prev_at, inserted}
 use Rattle.gpu_block_gaps.proofs.thread.Thread.insert.Goals.{After-self-1}
 use Rattle.gpu_block_gaps.proofs.thread.Thread.insert.Goals as goal
 
@@ -46,19 +46,16 @@ invariant_of-self c =
     let there = c.requires.there in
     subst (λ (rs : List Record). IsThread rs c.pop.new.self.items (vec_capacity c.pop.new.self)) (sym (moved c)) (left c there.0 there.1 there.2).0
 
-pub returns-clause-order : goal.returns-clause-order
-returns-clause-order c = λ k le there. ap order_of (moved c) ∙ (left c k le there).1
+slot_is : (c : After-self-1) → c.in-Some.slot ≡ c.args.self.now.vacant
+slot_is c =
+    sym (ap last_of c.in-Some.ensures.items ∙ last_is c.pop.new.self.items c.in-Some.slot) ∙ ap (λ (t : Threaded). t.vacant) c.self.view_is
 
-pub returns-clause-slot : goal.returns-clause-slot
-returns-clause-slot c =
-    let there = c.requires.there in
-    let free = new_slot c.self.inside.records.items c.deref_mut.result.now c.self.inside.records.items c.self.inside.spare.items c.pop.new.self.items c.in-Some.slot (vec_capacity c.self.inside.spare) (vec_capacity c.pop.new.self) c.args.next c.args.self.now.order there.0 blank_record c.self.invariant (ap (λ (t : Threaded). t.order) c.self.view_is) c.in-Some.ensures.items there.1 there.2 in
-    let gaps = ap (λ (t : Threaded). length t.gaps) c.self.view_is in
-    let long = length-map c.self.inside.records.items gap_of in
-    (free.0, (let a = free.1 in omega arith), free.2)
+pub returns-clause-order : goal.returns-clause-order
+returns-clause-order c = λ k le there. ap order_of (moved c) ∙ (left c k le there).1 ∙ ap (insert c.args.self.now.order k) (slot_is c)
 
 pub returns-clause-gaps : goal.returns-clause-gaps
 returns-clause-gaps c =
     ap (map gap_of) (moved c) ∙ c.link.ensures.gaps
     ∙ ap (λ (rs : List Record). set (map gap_of rs) c.in-Some.slot c.args.gap) c.deref_mut.ensures.value
     ∙ ap (λ (gs : List Gap). set gs c.in-Some.slot c.args.gap) (ap (λ (t : Threaded). t.gaps) c.self.view_is)
+    ∙ ap (λ l. set c.args.self.now.gaps l c.args.gap) (slot_is c)
