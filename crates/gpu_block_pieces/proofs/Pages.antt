@@ -39,36 +39,6 @@ next_up x m pos =
           rw same (record { up = omega arith; near = omega arith; multiple = mul-mod_left (x / m + 1) m; least = λ o le e. next_multiple_above m o (x / m) pos e (omega arith) })
     ]
 
--- where the last multiple up to l isn't before x, the next one from x on is at most l
-pub up_within : (x l m r : ℕ) → 0 < m → x ≤ l → (r ≡ l % m) → r ≤ l - x → next_multiple_of x m ≤ l
-up_within x l m r pos order e near =
-    let whole = div-add-mod' l m in
-    let multiple : next_multiple_of x m ≤ l / m * m = (next_up x m pos).least (l / m * m) (omega arith) (mul-mod_left (l / m) m) in
-    omega arith
-
--- where the last multiple up to l is before x, there is none from x on up to l
-pub no_multiple_within : (x l m r : ℕ) → 0 < m → x ≤ l → r ≡ l % m → l - x < r → next_multiple_of x m ≤ l → ⊥
-no_multiple_within x l m r pos order e near within =
-    let up = next_up x m pos in
-    let low = up.up in
-    let whole = div-add-mod' l m in
-    let below : l % m < m = mod_below l m pos in
-    elim (cases_lt (l / m * m) (next_multiple_of x m)) [
-      | inl above ↦
-          let next = next_multiple_above m (next_multiple_of x m) (l / m) pos up.multiple above in
-          let step : (l / m + 1) * m ≡ l / m * m + m = omega arith in
-          omega arith
-      | inr ge ↦ omega arith
-    ]
-
-pub over : (x m r : ℕ) → 0 < m → r ≡ x % m → (r ≡ 0 → ⊥) → x + (m - r) ≡ next_multiple_of x m
-over x m r pos e some =
-    let below : x % m < m = mod_below x m pos in
-    elim (cases_eq r 0) [
-      | inl none ↦ absurd (some none)
-      | inr ne ↦ let inner : (m - x % m) % m ≡ m - x % m = mod-eq_of_lt (omega arith) in omega arith
-    ]
-
 -- `first` is the least place from s on where a piece may begin but for its alignment
 pub record IsFirst (g : ℕ) (Other : Type 0) (s first : ℕ) : Type 0 where
   pub low : (o : ℕ) → s ≤ o → (Other → page g o ≢ page g (s - 1)) → first ≤ o
@@ -101,6 +71,13 @@ first_next g Other s pos behind other =
           let page_over : p + 1 ≤ o / g = le-div (p + 1) o g pos (omega arith) in
           (from, λ _ e. absurd (omega arith));
     }
+
+-- at the first byte of a page
+pub first_of_page : (g : ℕ) (Other : Type 0) (s : ℕ) → 0 < g → (Other → 0 < s) → s % g ≡ 0 → IsFirst g Other s s
+first_of_page g Other s pos behind at =
+    let inner : (g - s % g) % g ≡ 0 = rw (at, sub-zero) (mod_self g) in
+    let same : next_multiple_of s g ≡ s = omega arith in
+    record { low = λ o le _. le; back = λ o le. (le, λ other. ((first_next g Other s pos (behind other) other).back o (omega arith)).1 other) }
 
 pub offset_some : (g a : ℕ) (Other : Type 0) (s first v : ℕ) → 0 < a → IsFirst g Other s first → v ≡ next_multiple_of first a → IsOffsetIn g a Other s v
 offset_some g a Other s first v pos f e =

@@ -43,16 +43,12 @@ fn round_up(place: u64, last: u64, step: u64) -> Option<u64>
     requires power { IsTrue (is_power_of_two step) }
     ensures { SomeIff result (next_multiple_of place step ≤ last) (next_multiple_of place step) }
 {
-    // Then the greatest multiple up to `last` lies before the place. Most gaps that don't fit end here, and no sum can overflow.
-    if last - place < remainder(last, step) {
+    // How far the multiple is, told without a branch. No sum can overflow.
+    let over = remainder(step - remainder(place, step), step);
+    if last - place < over {
         return None;
     }
-    let over = remainder(place, step);
-    Some(if over == 0 {
-        place
-    } else {
-        place + (step - over)
-    })
+    Some(place + over)
 }
 
 /// The least place for a piece from `start` on, if it isn't behind `last`.
@@ -65,7 +61,8 @@ fn offset_from(start: u64, last: u64, alignment: u64, granularity: u64, other: b
         ((o : ℕ) → MayBegin granularity alignment (IsTrue other) start o → last < o)
         (λ o. IsOffsetIn granularity alignment (IsTrue other) start o × (o ≤ last)) }
 {
-    let first = if other {
+    // Where the gap begins with a page nothing before it is on that one. A granularity of 1 ends here, whatever the kinds are.
+    let first = if remainder(start, granularity) != 0 && other {
         round_up(start, last, granularity)?
     } else {
         start
@@ -110,7 +107,7 @@ pub fn place_between(
         differ(left, wanted.kind),
     )?;
     let last = offset + (wanted.size - 1);
-    if differ(right, wanted.kind) && share_page(last, start + length, wanted.granularity) {
+    if share_page(last, start + length, wanted.granularity) && differ(right, wanted.kind) {
         return None;
     }
     Some(offset)
