@@ -163,6 +163,20 @@ pub fn nearest(forks: &[Fork], node: Node, key: Key) -> u32
     }
 }
 
+/// The place of a key beside all leaves of a node: before the first one, or behind the last one if the key has the bit that they haven't.
+#[inline(always)]
+fn place_beside(forks: &[Fork], node: Node, set: bool) -> Place
+    requires { (t : Tree) × Lays (slice_get forks.now) 128 node t }
+    ensures { (t : Tree) → Lays (slice_get forks.now) 128 node t
+        → result ≡ (if set then Place.After (last_leaf t) else Place.Before (first_leaf t)) }
+{
+    if set {
+        Place::After(last(forks, node))
+    } else {
+        Place::Before(first(forks, node))
+    }
+}
+
 /// The place of a key that differs in that bit from the key to which its bits lead, and in none above it.
 pub fn place_of(forks: &[Fork], node: Node, key: Key, bit: u32) -> Place
     requires laid { (t : Tree) × Lays (slice_get forks.now) 128 node t }
@@ -176,11 +190,7 @@ pub fn place_of(forks: &[Fork], node: Node, key: Key, bit: u32) -> Place
             return place_of(forks, fork.branch(key.is_set(fork.bit)), key, bit);
         }
     }
-    if key.is_set(bit) {
-        Place::After(last(forks, node))
-    } else {
-        Place::Before(first(forks, node))
-    }
+    place_beside(forks, node, key.is_set(bit))
 }
 
 /// Puts a leaf into the tree at a fork above that bit, by a fork in a slot: it goes beside the part from which its key differs in that bit,
@@ -207,12 +217,9 @@ fn insert_below(forks: &mut [Fork], above: u32, key: Key, bit: u32, leaf: u32, s
             return insert_below(forks, below, key, bit, leaf, slot);
         }
     }
-    let place = place_of(forks, branch, key, bit);
-    put(
-        forks,
-        slot,
-        Fork::beside(bit, key.is_set(bit), branch, leaf),
-    );
+    let on = key.is_set(bit);
+    let place = place_beside(forks, branch, on);
+    put(forks, slot, Fork::beside(bit, on, branch, leaf));
     put(forks, above, fork.with_branch(set, Node::Branch(slot)));
     place
 }
@@ -239,8 +246,9 @@ pub fn insert(forks: &mut [Fork], node: Node, key: Key, bit: u32, leaf: u32, slo
             return Grown { node, place };
         }
     }
-    let place = place_of(forks, node, key, bit);
-    put(forks, slot, Fork::beside(bit, key.is_set(bit), node, leaf));
+    let on = key.is_set(bit);
+    let place = place_beside(forks, node, on);
+    put(forks, slot, Fork::beside(bit, on, node, leaf));
     Grown {
         node: Node::Branch(slot),
         place,

@@ -1,9 +1,10 @@
-use Rattle.std.proofs.Common.{rules, arith, ◌≡◌, ℕ, ◌<◌, ◌≤◌, true, false, cond, refl, sym, ap, subst, ◌∙◌}
+use Rattle.std.proofs.Common.{rules, arith, ◌≡◌, ℕ, ◌<◌, ◌≤◌, cond, refl, sym, ap, subst, ◌∙◌}
 use Rattle.std.specs.List.{slice_get}
 use Rattle.std.proofs.lemmas.Option.{slice_get_within}
 use Rattle.gpu_block_gaps.specs.declared.tree.Node.{Node}
+use Rattle.gpu_block_gaps.specs.declared.tree.Place.TheVariants.{Before, After}
 use Rattle.gpu_block_gaps.specs.Key.{code_of, bit_of}
-use Rattle.gpu_block_gaps.specs.Tree.{Tree, tip, fork, Slots, Lays, leaves_of, first_leaf, last_leaf, IsSplit, IsPlace, IsBefore, IsAfter}
+use Rattle.gpu_block_gaps.specs.Tree.{Tree, tip, fork, Slots, Lays, leaves_of, first_leaf, last_leaf, IsSplit, IsPlace}
 use Rattle.gpu_block_gaps.proofs.Trees.{fork_at, fork_read, lays_under, rank, falls, lays_branch}
 use Rattle.gpu_block_gaps.proofs.Places.{split_branch, place_branch, place_tip, place_stop}
 use Rattle.gpu_block_gaps.proofs.tree.+place_of.Goals as goal
@@ -50,17 +51,14 @@ returns-then-bit-fork t c = λ key u standing split.
 bit_same : (k j b d : ℕ) (x y v w : Tree) → fork k b x y ≡ fork j d v w → b ≡ d
 bit_same k j b d x y v w same = cc
 
-pub returns-then-is_set : goal.returns-then-is_set
-returns-then-is_set t c = λ key u laid split. by_tree key u laid split
+pub returns : goal.returns
+returns t c = λ key u laid split. subst (IsPlace key n (leaves_of u)) (sym (place_is u laid)) (by_tree key u laid split)
   where
     n : ℕ
     n = code_of c.args.key
 
     slots : Slots
     slots = slice_get c.args.forks.now
-
-    set : bit_of n c.args.bit ≡ true
-    set = sym c.is_set-2.ensures ∙ c.if-is_set.true
 
     same_node : c.args.node ≡ c.match-node.node
     same_node =
@@ -69,12 +67,13 @@ returns-then-is_set t c = λ key u laid split. by_tree key u laid split
           | in_default w ↦ (let a = w.node-is in let b = w.in_default.is in cc)
         ]
 
-    leaf_is : (u : Tree) → Lays slots 128 c.args.node u → last_leaf u ≡ c.last.result
-    leaf_is u laid = sym (c.last.ensures u (subst (λ (m : Node). Lays slots 128 m u) same_node laid))
+    place_is : (u : Tree) → Lays slots 128 c.args.node u → c.place_beside.result ≡ cond (bit_of n c.args.bit) (After (last_leaf u)) (Before (first_leaf u))
+    place_is u laid =
+        c.place_beside.ensures u (subst (λ (m : Node). Lays slots 128 m u) same_node laid) ∙ ap (λ set. cond set (After (last_leaf u)) (Before (first_leaf u))) c.is_set-2.ensures
 
-    by_tree : (key : ℕ → ℕ) (u : Tree) → Lays slots 128 c.args.node u → IsSplit key u n c.args.bit → IsAfter key n (leaves_of u) c.last.result
-    by_tree key (tip leaf) laid split =
-        subst (IsAfter key n (leaves_of (tip leaf))) (leaf_is (tip leaf) laid) (place_tip key leaf n c.args.bit split true set)
+    by_tree : (key : ℕ → ℕ) (u : Tree) → Lays slots 128 c.args.node u → IsSplit key u n c.args.bit
+        → IsPlace key n (leaves_of u) (cond (bit_of n c.args.bit) (After (last_leaf u)) (Before (first_leaf u)))
+    by_tree key (tip leaf) laid split = place_tip key leaf n c.args.bit split (bit_of n c.args.bit) refl
     by_tree key (fork at b x y) laid split =
         let le : b ≤ c.args.bit =
         elim c.match-node.branch [
@@ -85,41 +84,4 @@ returns-then-is_set t c = λ key u laid split. by_tree key u laid split
               omega arith)
           | in_default w ↦ absurd (w.in_default.not-Branch at laid.0)
         ] in
-        subst (IsAfter key n (leaves_of (fork at b x y))) (leaf_is (fork at b x y) laid) (place_stop key at b x y n c.args.bit split le true set)
-
-pub returns-else-is_set : goal.returns-else-is_set
-returns-else-is_set t c = λ key u laid split. by_tree key u laid split
-  where
-    n : ℕ
-    n = code_of c.args.key
-
-    slots : Slots
-    slots = slice_get c.args.forks.now
-
-    set : bit_of n c.args.bit ≡ false
-    set = sym c.is_set-2.ensures ∙ c.if-is_set.false
-
-    same_node : c.args.node ≡ c.match-node.node
-    same_node =
-        elim c.match-node.branch [
-          | in-Branch+else-bit-fork w ↦ (let a = w.node-is in let b = w.in-Branch.is in cc)
-          | in_default w ↦ (let a = w.node-is in let b = w.in_default.is in cc)
-        ]
-
-    leaf_is : (u : Tree) → Lays slots 128 c.args.node u → first_leaf u ≡ c.first.result
-    leaf_is u laid = sym (c.first.ensures u (subst (λ (m : Node). Lays slots 128 m u) same_node laid))
-
-    by_tree : (key : ℕ → ℕ) (u : Tree) → Lays slots 128 c.args.node u → IsSplit key u n c.args.bit → IsBefore key n (leaves_of u) c.first.result
-    by_tree key (tip leaf) laid split =
-        subst (IsBefore key n (leaves_of (tip leaf))) (leaf_is (tip leaf) laid) (place_tip key leaf n c.args.bit split false set)
-    by_tree key (fork at b x y) laid split =
-        let le : b ≤ c.args.bit =
-        elim c.match-node.branch [
-          | in-Branch+else-bit-fork w ↦ (
-              let there = fork_read slots 128 c.args.node (fork at b x y) w.in-Branch.at w.fork_in-fork.result laid w.in-Branch.is w.fork_in-fork.ensures in
-              let same : b ≡ w.fork_in-fork.result.bit = bit_same at w.in-Branch.at b _ x y there.x there.y there.is in
-              let far = w.if-bit-fork.false in
-              omega arith)
-          | in_default w ↦ absurd (w.in_default.not-Branch at laid.0)
-        ] in
-        subst (IsBefore key n (leaves_of (fork at b x y))) (leaf_is (fork at b x y) laid) (place_stop key at b x y n c.args.bit split le false set)
+        place_stop key at b x y n c.args.bit split le (bit_of n c.args.bit) refl
