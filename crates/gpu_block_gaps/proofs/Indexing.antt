@@ -130,7 +130,7 @@ module _ (t : Threaded) (f : Forest) (trees : List (Option Tree)) (are : AreInde
       pub nearby_rekeyed : (n : ℕ) (near_by : Nearby) → IsNearby (key_in t.gaps) f.scale trees n near_by → IsNearby (key_in (set t.gaps s g)) f.scale trees n near_by
       nearby_rekeyed n Nothing at = at
       nearby_rekeyed n (Same slot) at = (at.0, at.1, at.2, stays_key slot (subst (λ l. IsIn l t.order) (sym at.2) (near_in n (class_in f.scale n) at.0 at.1)) ∙ at.3)
-      nearby_rekeyed n (Apart bit) at =
+      nearby_rekeyed n (Apart bit slot) at =
           let e = stays_key (near n at.0) (near_in n (class_in f.scale n) at.0 at.1) in (
             at.0,
             at.1,
@@ -140,6 +140,7 @@ module _ (t : Threaded) (f : Forest) (trees : List (Option Tree)) (are : AreInde
               differs = λ same. at.2.differs (same ∙ ap (λ m. m / 2 ^ bit) e);
             },
             at.3,
+            at.4,
           )
 
       module _ (t' : Threaded) (f' : Forest) (new : Tree) (p : ℕ) (place : IsPlaceIn (key_in t.gaps) t.order (code g) p) (room : KeepsRoom f f')

@@ -8,6 +8,7 @@ pub mod Growing
 pub mod Grown
 pub mod Laying
 pub mod Places
+pub mod Zeros
 pub mod Pruning
 pub mod Forests
 pub mod Planting

@@ -120,7 +120,7 @@ module _ (t : Threaded) (f : Forest) (trees : List (Option Tree)) (are : AreInde
   pub few_keys : (n : ℕ) (near_by : Nearby) → IsNearby (key_in t.gaps) f.scale trees n near_by → keys_beside near_by ≤ digits (length (gaps_of t))
   few_keys n Nothing at = omega arith
   few_keys n (Same slot) at = one_digit (length (gaps_of t)) (let is = near_in t f trees are n (class_in f.scale n) at.0 at.1 in let a = is.1 in let b = length-map t.order (gap_in t.gaps) in omega arith)
-  few_keys n (Apart bit) at = one_digit (length (gaps_of t)) (let is = near_in t f trees are n (class_in f.scale n) at.0 at.1 in let a = is.1 in let b = length-map t.order (gap_in t.gaps) in omega arith)
+  few_keys n (Apart bit slot) at = one_digit (length (gaps_of t)) (let is = near_in t f trees are n (class_in f.scale n) at.0 at.1 in let a = is.1 in let b = length-map t.order (gap_in t.gaps) in omega arith)
 
   -- ---- the longest gap, in the last slot
 

@@ -41,13 +41,13 @@ IsIndexed t f = (trees : List (Option Tree)) × AreIndexed t f trees
 abbrev pub IsNearby : (ℕ → ℕ) → Scale → List (Option Tree) → ℕ → Nearby → Type 0
 IsNearby key scale trees n Nothing = tree_at trees (class_in scale n) ≡ None
 IsNearby key scale trees n (Same slot) = (t : Tree) × (tree_at trees (class_in scale n) ≡ Some t) × (slot ≡ near n t) × (key slot ≡ n)
-IsNearby key scale trees n (Apart bit) = (t : Tree) × (tree_at trees (class_in scale n) ≡ Some t) × IsSplit key t n bit × (bit < 128)
+IsNearby key scale trees n (Apart bit slot) = (t : Tree) × (tree_at trees (class_in scale n) ≡ Some t) × IsSplit key t n bit × (bit < 128) × (slot ≡ near n t)
 
 -- how many keys that takes to find: one where the class has any
 abbrev pub keys_beside : Nearby → ℕ
 keys_beside Nothing = 0
 keys_beside (Same slot) = 1
-keys_beside (Apart bit) = 1
+keys_beside (Apart bit slot) = 1
 
 -- the length is greater than that of the gap before the place, if there is one
 abbrev pub IsLonger : Threaded → (place size : ℕ) → Type 0

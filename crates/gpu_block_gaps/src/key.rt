@@ -11,7 +11,7 @@ pub struct Key {
 }
 
 /// The bits of the start are those below it.
-const START_BITS: u32 = 64;
+pub const START_BITS: u32 = 64;
 
 impl Key {
     /// Whether a bit of the key is set.

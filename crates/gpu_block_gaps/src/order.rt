@@ -13,17 +13,18 @@ ghost use Rattle.gpu_block_gaps.specs.Ordered.{code, key_in, gaps_of, AreIndexed
 
 use crate::forest::Forest;
 use crate::index::Gap;
-use crate::key::Key;
+use crate::key::{Key, START_BITS};
 use crate::thread::Thread;
 use crate::tree::Place;
 use gpu_cost::Cost;
 
-/// What the tree of a key's class has: nothing, the slot of that key, or a key that differs first in that bit.
+/// What the tree of a key's class has: nothing, the slot of that key, or a slot to which the key's bits lead, and whose key differs first in
+/// that bit.
 #[derive(Clone, Copy)]
 pub enum Nearby {
     Nothing,
     Same(u32),
-    Apart(u32),
+    Apart(u32, u32),
 }
 
 /// The length and the start of a gap.
@@ -49,7 +50,7 @@ fn look_near(thread: &Thread, forest: &Forest, key: Key, class: usize) -> Nearby
         return Nearby::Nothing;
     };
     match key.split(key_of(&thread.gap(slot))) {
-        Some(bit) => Nearby::Apart(bit),
+        Some(bit) => Nearby::Apart(bit, slot),
         None => Nearby::Same(slot),
     }
 }
@@ -76,11 +77,12 @@ pub fn compare_near(
     nearby
 }
 
-/// The slot of the first gap from a key on, 0 where there is none.
+/// The slot of the first gap from a length on, 0 where there is none.
 #[inline(always)]
 pub fn next_from(thread: &Thread, forest: &Forest, key: Key, class: usize, nearby: Nearby) -> u32
     requires near { (trees : List (Option Tree)) × AreIndexed thread.now forest.now trees
         × IsNearby (key_in thread.now.gaps) forest.now.scale trees (code_of key) nearby }
+    requires start { key.start ≡ 0 }
     requires class { class ≡ class_in forest.now.scale (code_of key) }
     ensures { (place : ℕ) → IsPlaceIn (key_in thread.now.gaps) thread.now.order (code_of key) place
         → result ≡ slice_index thread.now.order place }
@@ -91,10 +93,16 @@ pub fn next_from(thread: &Thread, forest: &Forest, key: Key, class: usize, nearb
             None => 0,
         },
         Nearby::Same(slot) => slot,
-        Nearby::Apart(bit) => match forest.place(key, class, bit) {
-            Place::Before(slot) => slot,
-            Place::After(slot) => thread.next(slot),
-        },
+        Nearby::Apart(bit, slot) => {
+            // A gap of that length: the bits of a start of 0 lead to the first one.
+            if bit < START_BITS {
+                return slot;
+            }
+            match forest.place(key, class, bit) {
+                Place::Before(slot) => slot,
+                Place::After(slot) => thread.next(slot),
+            }
+        }
     }
 }
 
@@ -134,7 +142,7 @@ fn plant(
                 None => 0,
             }
         }
-        Nearby::Apart(bit) => match forest.insert_beside(key, class, bit, slot) {
+        Nearby::Apart(bit, _) => match forest.insert_beside(key, class, bit, slot) {
             Place::Before(leaf) => leaf,
             Place::After(leaf) => thread.next(leaf),
         },

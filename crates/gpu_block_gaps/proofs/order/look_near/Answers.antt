@@ -31,6 +31,7 @@ returns-in-Some-split c = λ trees are.
         differs = λ same. split.2 (same ∙ sym (ap (λ n. n / 2 ^ c.in-Some-split.bit) there));
       },
       split.0,
+      near.2,
     )
 
 pub returns-in-None : goal.returns-in-None
