@@ -39,6 +39,28 @@ next_up x m pos =
           rw same (record { up = omega arith; near = omega arith; multiple = mul-mod_left (x / m + 1) m; least = λ o le e. next_multiple_above m o (x / m) pos e (omega arith) })
     ]
 
+-- where the last multiple up to l isn't before x, the next one from x on is at most l
+pub up_within : (x l m r : ℕ) → 0 < m → x ≤ l → (r ≡ l % m) → r ≤ l - x → next_multiple_of x m ≤ l
+up_within x l m r pos order e near =
+    let whole = div-add-mod' l m in
+    let multiple : next_multiple_of x m ≤ l / m * m = (next_up x m pos).least (l / m * m) (omega arith) (mul-mod_left (l / m) m) in
+    omega arith
+
+-- where the last multiple up to l is before x, there is none from x on up to l
+pub no_multiple_within : (x l m r : ℕ) → 0 < m → x ≤ l → r ≡ l % m → l - x < r → next_multiple_of x m ≤ l → ⊥
+no_multiple_within x l m r pos order e near within =
+    let up = next_up x m pos in
+    let low = up.up in
+    let whole = div-add-mod' l m in
+    let below : l % m < m = mod_below l m pos in
+    elim (cases_lt (l / m * m) (next_multiple_of x m)) [
+      | inl above ↦
+          let next = next_multiple_above m (next_multiple_of x m) (l / m) pos up.multiple above in
+          let step : (l / m + 1) * m ≡ l / m * m + m = omega arith in
+          omega arith
+      | inr ge ↦ omega arith
+    ]
+
 -- `first` is the least place from s on where a piece may begin but for its alignment
 pub record IsFirst (g : ℕ) (Other : Type 0) (s first : ℕ) : Type 0 where
   pub low : (o : ℕ) → s ≤ o → (Other → page g o ≢ page g (s - 1)) → first ≤ o

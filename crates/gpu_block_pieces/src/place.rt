@@ -43,11 +43,12 @@ fn round_up(place: u64, last: u64, step: u64) -> Option<u64>
     requires power { IsTrue (is_power_of_two step) }
     ensures { SomeIff result (next_multiple_of place step ≤ last) (next_multiple_of place step) }
 {
-    // How far the multiple is, told without a branch. No sum can overflow.
-    let over = remainder(step - remainder(place, step), step);
-    if last - place < over {
+    // Then the greatest multiple up to `last` lies before the place. Most gaps that don't fit end here, and no sum can overflow.
+    if last - place < remainder(last, step) {
         return None;
     }
+    // How far the next multiple is, told without a branch.
+    let over = remainder(step - remainder(place, step), step);
     Some(place + over)
 }
 
