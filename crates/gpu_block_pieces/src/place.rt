@@ -62,7 +62,7 @@ fn offset_from(start: u64, last: u64, alignment: u64, granularity: u64, other: b
         ((o : ℕ) → MayBegin granularity alignment (IsTrue other) start o → last < o)
         (λ o. IsOffsetIn granularity alignment (IsTrue other) start o × (o ≤ last)) }
 {
-    // Where the gap begins with a page nothing before it is on that one. A granularity of 1 ends here, whatever the kinds are.
+    // Where the gap begins with a page, nothing before it is on that one. A granularity of 1 ends here, whatever the kinds are.
     let first = if remainder(start, granularity) != 0 && other {
         round_up(start, last, granularity)?
     } else {
