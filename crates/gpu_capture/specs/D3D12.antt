@@ -1,0 +1,34 @@
+-- The words of a DirectX 12 trace.
+use Rattle.std.specs.Prelude.{ℕ, ◌+◌, ◌*◌, ◌/◌, ◌^◌, nat_lt, if◌then◌else◌, List, [], ◌∷◌, Bool, true, false, codes}
+use Rattle.std.specs.Fmt.{decimal}
+use Rattle.gpu_values.specs.declared.memory_location.MemoryLocation.{MemoryLocation}
+use Rattle.gpu_capture.specs.declared.request.Category.{Category}
+use Rattle.gpu_capture.specs.declared.request.Category.TheVariants.{Buffer, Target, Texture}
+use Rattle.gpu_capture.specs.Words.{location_word}
+
+-- render targets and depth stencils are targets
+abbrev pub category_word : Category → List ℕ
+category_word Buffer = codes "buffer"
+category_word Target = codes "target"
+category_word Texture = codes "texture"
+
+abbrev pub d3d12_words : (size alignment : ℕ) → MemoryLocation → Category → (name : List ℕ) → List (List ℕ)
+d3d12_words size alignment location category name =
+    decimal size ∷ decimal alignment ∷ location_word location ∷ category_word category ∷ name ∷ []
+
+abbrev pub tier_word : (is_tier_2 : Bool) → List ℕ
+tier_word true = codes "2"
+tier_word false = codes "1"
+
+abbrev pub tier_words : (is_tier_2 : Bool) → List (List ℕ)
+tier_words is_tier_2 = codes "tier" ∷ tier_word is_tier_2 ∷ []
+
+-- a committed resource, as a buffer of so many bytes
+abbrev pub committed_words : (number : ℕ) → MemoryLocation → Category → (size : ℕ) → (name : List ℕ) → List (List ℕ)
+committed_words number location category size name =
+    codes "create" ∷ decimal number ∷ codes "committed" ∷ location_word location ∷ category_word category ∷ codes "buffer" ∷ decimal size
+    ∷ codes "1" ∷ codes "1" ∷ codes "0" ∷ codes "state:0" ∷ codes "none" ∷ codes "none" ∷ name ∷ []
+
+-- a size in whole units of 65,536 bytes, where 64 bits hold that
+abbrev pub whole_units : (size : ℕ) → ℕ
+whole_units size = let whole = (size + 65535) / 65536 * 65536 in if nat_lt whole (2 ^ 64) then whole else size

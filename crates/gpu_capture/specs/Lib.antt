@@ -1,0 +1,11 @@
+pub mod Line
+pub mod CaptureState
+pub mod Keeps
+pub mod Words
+pub mod Answers
+pub mod Budgets
+pub mod Vulkan
+pub mod D3D12
+pub mod Metal
+pub mod Requests
+pub mod Devices
