@@ -12,9 +12,9 @@ category_word Buffer = codes "buffer"
 category_word Target = codes "target"
 category_word Texture = codes "texture"
 
-abbrev pub d3d12_words : (size alignment : ℕ) → MemoryLocation → Category → (name : List ℕ) → List (List ℕ)
+abbrev pub d3d12_words : (size alignment : ℕ) → MemoryLocation → (category : List ℕ) → (name : List ℕ) → List (List ℕ)
 d3d12_words size alignment location category name =
-    decimal size ∷ decimal alignment ∷ location_word location ∷ category_word category ∷ name ∷ []
+    decimal size ∷ decimal alignment ∷ location_word location ∷ category ∷ name ∷ []
 
 abbrev pub tier_word : (is_tier_2 : Bool) → List ℕ
 tier_word true = codes "2"
@@ -24,9 +24,9 @@ abbrev pub tier_words : (is_tier_2 : Bool) → List (List ℕ)
 tier_words is_tier_2 = codes "tier" ∷ tier_word is_tier_2 ∷ []
 
 -- a committed resource, as a buffer of so many bytes
-abbrev pub committed_words : (number : ℕ) → MemoryLocation → Category → (size : ℕ) → (name : List ℕ) → List (List ℕ)
+abbrev pub committed_words : (number : ℕ) → MemoryLocation → (category : List ℕ) → (size : ℕ) → (name : List ℕ) → List (List ℕ)
 committed_words number location category size name =
-    codes "create" ∷ decimal number ∷ codes "committed" ∷ location_word location ∷ category_word category ∷ codes "buffer" ∷ decimal size
+    codes "create" ∷ decimal number ∷ codes "committed" ∷ location_word location ∷ category ∷ codes "buffer" ∷ decimal size
     ∷ codes "1" ∷ codes "1" ∷ codes "0" ∷ codes "state:0" ∷ codes "none" ∷ codes "none" ∷ name ∷ []
 
 -- a size in whole units of 65,536 bytes, where 64 bits hold that

@@ -36,3 +36,10 @@ rename_words number name = codes "rename" ∷ decimal number ∷ name ∷ []
 
 abbrev pub budget_words : (memory_type : ℕ) → Option ℕ → List (List ℕ)
 budget_words memory_type budget = codes "budget" ∷ decimal memory_type ∷ budget_word budget ∷ []
+
+-- an allocation under a number, and a second place of one: what is asked for behind that
+abbrev pub alloc_words : (number : ℕ) → (request : List (List ℕ)) → List (List ℕ)
+alloc_words number request = codes "alloc" ∷ decimal number ∷ request
+
+abbrev pub move_words : (from to : ℕ) → (request : List (List ℕ)) → List (List ℕ)
+move_words from to request = codes "move" ∷ decimal from ∷ decimal to ∷ request

@@ -4,3 +4,8 @@ pub mod Settings
 pub mod MetalMeaning
 pub mod D3D12Parts
 pub mod D3D12Meaning
+pub mod Made
+pub mod CapturedWords
+pub mod Captured
+pub mod MetalCaptured
+pub mod D3D12Captured

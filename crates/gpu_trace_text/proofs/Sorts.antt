@@ -26,12 +26,12 @@ use Rattle.gpu_trace_text.specs.Sort.{Sort, of_block, describes, sets_page, sets
 use Rattle.gpu_trace_text.specs.Stage.{Admits, AdmitsSort, Does}
 use Rattle.gpu_trace_text.specs.BlockOrDevice.{Serves}
 
-abbrev choose : Bool → Sort → Sort → Sort
+abbrev pub choose : Bool → Sort → Sort → Sort
 choose true a b = a
 choose false a b = b
 
 -- the sort of the lines that begin with this word
-abbrev by_word : List ℕ → Sort
+abbrev pub by_word : List ℕ → Sort
 by_word w =
     choose (bytes_eq w (codes "block")) (of_block opens_block)
     (choose (bytes_eq w (codes "take")) (of_block uses_block)
@@ -55,7 +55,7 @@ by_word w =
     (choose (bytes_eq w (codes "capacity")) asks
     (choose (bytes_eq w (codes "budget")) asks says_nothing))))))))))))))))))))
 
-abbrev by_words : List (List ℕ) → Sort
+abbrev pub by_words : List (List ℕ) → Sort
 by_words [] = says_nothing
 by_words (w ∷ ws) = by_word w
 
@@ -65,7 +65,7 @@ of_command (blocks.Allocate key size alignment kind name) = refl
 of_command (blocks.Free key) = refl
 of_command blocks.Report = refl
 
-of_setting : (s : settings.Setting) → by_words (setting.words s) ≡ sort_of_setting s
+pub of_setting : (s : settings.Setting) → by_words (setting.words s) ≡ sort_of_setting s
 of_setting (Heap size) = refl
 of_setting (MemoryType flags heap) = refl
 of_setting (Granularity bytes) = refl
@@ -73,7 +73,7 @@ of_setting (Sizes device host max_device max_host) = refl
 of_setting (Refuse question refusal) = refl
 
 -- `report` is read as a line of block traces
-of_ask : (c : asks_commands.Command) → ask.Fits c → by_words (ask.words c) ≡ asks
+pub of_ask : (c : asks_commands.Command) → ask.Fits c → by_words (ask.words c) ≡ asks
 of_ask (asked.Alloc key request) f = refl
 of_ask (asked.Move key to request) f = refl
 of_ask (asked.Null key) f = refl
@@ -87,12 +87,12 @@ of_ask asked.Capacity f = refl
 of_ask (asked.SetBudget t budget) f = refl
 
 -- a reading that says something
-abbrev Says : Line → Type 0
+abbrev pub Says : Line → Type 0
 Says lines.Blank = ⊥
 Says lines.Bad = ⊥
 Says l = Unit {0}
 
-sort_read : (ws : List (List ℕ)) (l : Line) → Says l → Reads ws l → by_words ws ≡ sort_of l
+pub sort_read : (ws : List (List ℕ)) (l : Line) → Says l → Reads ws l → by_words ws ≡ sort_of l
 sort_read ws lines.Blank s r = absurd s
 sort_read ws (lines.Says c) s r = ap by_words r.is ∙ of_command c
 sort_read ws (lines.Configures c) s r = ap by_words r.is ∙ of_setting c

@@ -1,8 +1,8 @@
 -- What a command of a device trace says. Each has one spelling: its words, with decimal numbers and no leading zeros.
-use Rattle.std.specs.Prelude.{◌≡◌, ℕ, ◌<◌, ◌≤◌, ◌^◌, List, [], ◌∷◌, ◌++◌, length, Bool, true, false, Option, Some, None, codes, string_bytes}
+use Rattle.std.specs.Prelude.{◌≡◌, ℕ, ◌<◌, ◌≤◌, ◌^◌, List, [], ◌∷◌, length, Option, Some, None, codes, string_bytes}
 use Rattle.std.specs.Fmt.{decimal}
-use Rattle.gpu_values.specs.declared.memory_location.MemoryLocation.{MemoryLocation}
-use Rattle.gpu_values.specs.declared.memory_location.MemoryLocation.TheVariants.{Unknown, GpuOnly, CpuToGpu, GpuToCpu}
+use Rattle.gpu_capture.specs.Words.{alloc_words, budget_words, free_words, move_words, rename_words}
+use Rattle.gpu_capture.specs.Vulkan.{vulkan_words}
 use Rattle.gpu_device.specs.declared.vulkan.types.AllocationScheme.{AllocationScheme}
 use Rattle.gpu_device.specs.declared.vulkan.types.AllocationScheme.TheVariants.{DedicatedBuffer, DedicatedImage, GpuAllocatorManaged}
 use Rattle.gpu_device.specs.declared.vulkan.types.MemoryRequirements.{MemoryRequirements}
@@ -12,44 +12,23 @@ use Rattle.gpu_run.specs.declared.vulkan.command.Command.TheVariants.{Alloc, Mov
 use Rattle.gpu_trace_text.specs.Hex.{hex, AreBytes}
 use Rattle.gpu_block_session.specs.Words.{IsName}
 
-abbrev pub location_word : MemoryLocation → List ℕ
-location_word Unknown = codes "Unknown"
-location_word GpuOnly = codes "GpuOnly"
-location_word CpuToGpu = codes "CpuToGpu"
-location_word GpuToCpu = codes "GpuToCpu"
-
-abbrev pub linear_word : Bool → List ℕ
-linear_word true = codes "linear"
-linear_word false = codes "nonlinear"
-
-abbrev pub scheme_word : AllocationScheme → List ℕ
-scheme_word GpuAllocatorManaged = codes "managed"
-scheme_word (DedicatedBuffer b) = codes "buffer:" ++ decimal b.0
-scheme_word (DedicatedImage i) = codes "image:" ++ decimal i.0
-
-abbrev pub budget_word : Option ℕ → List ℕ
-budget_word None = codes "none"
-budget_word (Some bytes) = decimal bytes
-
 -- a request's words, behind the numbers that it is asked under
 abbrev pub request_words : Request → List (List ℕ)
-request_words r =
-    decimal r.requirements.size ∷ decimal r.requirements.alignment ∷ decimal r.requirements.memory_type_bits
-    ∷ location_word r.location ∷ linear_word r.linear ∷ scheme_word r.scheme ∷ string_bytes r.name ∷ []
+request_words r = vulkan_words r.requirements r.location r.linear r.scheme (string_bytes r.name)
 
 -- `report` is a line of block traces too, and is read there
 abbrev pub words : Command → List (List ℕ)
-words (Alloc key request) = codes "alloc" ∷ decimal key ∷ request_words request
-words (Move key to request) = codes "move" ∷ decimal key ∷ decimal to ∷ request_words request
+words (Alloc key request) = alloc_words key (request_words request)
+words (Move key to request) = move_words key to (request_words request)
 words (Null key) = codes "null" ∷ decimal key ∷ []
-words (Free key) = codes "free" ∷ decimal key ∷ []
-words (Rename key name) = codes "rename" ∷ decimal key ∷ string_bytes name ∷ []
+words (Free key) = free_words key
+words (Rename key name) = rename_words key (string_bytes name)
 words (Write key at bytes) = codes "write" ∷ decimal key ∷ decimal at ∷ hex bytes.items ∷ []
 words (Read key at size) = codes "read" ∷ decimal key ∷ decimal at ∷ decimal size ∷ []
 words Report = codes "report" ∷ []
 words Leaks = codes "leaks" ∷ []
 words Capacity = codes "capacity" ∷ []
-words (SetBudget t budget) = codes "budget" ∷ decimal t ∷ budget_word budget ∷ []
+words (SetBudget t budget) = budget_words t budget
 
 abbrev pub FitsScheme : AllocationScheme → Type 0
 FitsScheme GpuAllocatorManaged = Unit {0}

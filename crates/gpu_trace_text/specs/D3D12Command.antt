@@ -4,27 +4,29 @@ use Rattle.std.specs.Fmt.{decimal}
 use Rattle.gpu_run.specs.declared.d3d12.command.Command.{Command}
 use Rattle.gpu_run.specs.declared.d3d12.command.Request.{Request}
 use Rattle.gpu_run.specs.declared.d3d12.command.Command.TheVariants.{Alloc, Move, Free, Rename, Create, Release, Leaks, Report, Capacity, Committed, SetBudget}
-use Rattle.gpu_trace_text.specs.Ask.{location_word, budget_word, FitsBudget}
+use Rattle.gpu_capture.specs.Words.{alloc_words, budget_words, free_words, move_words, rename_words}
+use Rattle.gpu_capture.specs.D3D12.{d3d12_words}
+use Rattle.gpu_trace_text.specs.Ask.{FitsBudget}
 use Rattle.gpu_block_session.specs.Words.{IsName}
 use Rattle.gpu_trace_text.specs.D3D12Resource.{category_word, wanted_words, FitsWanted}
 
 -- a request's words, behind the numbers that it is asked under
 abbrev pub request_words : Request → List (List ℕ)
-request_words r = decimal r.size ∷ decimal r.alignment ∷ location_word r.location ∷ category_word r.category ∷ string_bytes r.name ∷ []
+request_words r = d3d12_words r.size r.alignment r.location (category_word r.category) (string_bytes r.name)
 
 -- a command's words
 abbrev pub words : Command → List (List ℕ)
-words (Alloc key request) = codes "alloc" ∷ decimal key ∷ request_words request
-words (Move key to request) = codes "move" ∷ decimal key ∷ decimal to ∷ request_words request
-words (Free key) = codes "free" ∷ decimal key ∷ []
-words (Rename key name) = codes "rename" ∷ decimal key ∷ string_bytes name ∷ []
+words (Alloc key request) = alloc_words key (request_words request)
+words (Move key to request) = move_words key to (request_words request)
+words (Free key) = free_words key
+words (Rename key name) = rename_words key (string_bytes name)
 words (Create key wanted) = codes "create" ∷ decimal key ∷ wanted_words wanted
 words (Release key) = codes "release" ∷ decimal key ∷ []
 words Leaks = codes "leaks" ∷ []
 words Report = codes "report" ∷ []
 words Capacity = codes "capacity" ∷ []
 words (Committed t) = codes "committed" ∷ decimal t ∷ []
-words (SetBudget t budget) = codes "budget" ∷ decimal t ∷ budget_word budget ∷ []
+words (SetBudget t budget) = budget_words t budget
 
 -- what a request's numbers and name may be
 pub record FitsRequest (r : Request) : Type 0 where

@@ -15,7 +15,7 @@ use Rattle.gpu_d3d12.specs.declared.question.ResourceStateOrBarrierLayout.TheVar
 use Rattle.gpu_run.specs.declared.d3d12.command.Memory.{Memory}
 use Rattle.gpu_run.specs.declared.d3d12.command.Memory.TheVariants.{Own, Placed}
 use Rattle.gpu_run.specs.declared.d3d12.command.WantedResource.{WantedResource}
-use Rattle.gpu_trace_text.specs.Ask.{location_word}
+use Rattle.gpu_capture.specs.Words.{location_word}
 use Rattle.gpu_block_session.specs.Words.{IsName}
 use Rattle.gpu_trace_text.specs.D3D12Numbers.{AreNumbers, numbers_word}
 

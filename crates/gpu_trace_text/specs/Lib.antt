@@ -25,3 +25,6 @@ pub mod D3D12Reply
 pub mod D3D12Configuration
 pub mod D3D12Asked
 pub mod D3D12Stage
+pub mod Captured
+pub mod MetalCaptured
+pub mod D3D12Captured

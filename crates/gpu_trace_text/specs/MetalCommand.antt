@@ -7,7 +7,9 @@ use Rattle.gpu_device.specs.declared.metal.types.TextureDescriptor.{TextureDescr
 use Rattle.gpu_run.specs.declared.metal.command.Command.{Command}
 use Rattle.gpu_run.specs.declared.metal.command.Request.{Request}
 use Rattle.gpu_run.specs.declared.metal.command.Command.TheVariants.{Alloc, Move, Buffer, AccelerationStructure, Texture, Free, Heaps, Commit, Report, Capacity, SetBudget}
-use Rattle.gpu_trace_text.specs.Ask.{location_word, budget_word, FitsBudget}
+use Rattle.gpu_capture.specs.Words.{location_word, alloc_words, budget_words, free_words, move_words}
+use Rattle.gpu_capture.specs.Metal.{metal_words}
+use Rattle.gpu_trace_text.specs.Ask.{FitsBudget}
 use Rattle.gpu_block_session.specs.Words.{IsName}
 
 -- the word for a storage mode; another than the four is told by its number
@@ -20,22 +22,22 @@ mode_word (Other mode) = codes "other:" ++ decimal mode
 
 -- the words of a request for a piece, behind the numbers that it is asked under
 abbrev pub request_words : Request → List (List ℕ)
-request_words r = decimal r.size ∷ decimal r.alignment ∷ location_word r.location ∷ string_bytes r.name ∷ []
+request_words r = metal_words r.size r.alignment r.location (string_bytes r.name)
 
 -- a command's words
 abbrev pub words : Command → List (List ℕ)
-words (Alloc key request) = codes "alloc" ∷ decimal key ∷ request_words request
-words (Move key to request) = codes "move" ∷ decimal key ∷ decimal to ∷ request_words request
+words (Alloc key request) = alloc_words key (request_words request)
+words (Move key to request) = move_words key to (request_words request)
 words (Buffer key length location name) = codes "buffer" ∷ decimal key ∷ decimal length ∷ location_word location ∷ string_bytes name ∷ []
 words (AccelerationStructure key size location name) = codes "structure" ∷ decimal key ∷ decimal size ∷ location_word location ∷ string_bytes name ∷ []
 words (Texture key t name) =
     codes "texture" ∷ decimal key ∷ mode_word t.storage_mode ∷ decimal t.width ∷ decimal t.height ∷ decimal t.bytes_per_texel ∷ string_bytes name ∷ []
-words (Free key) = codes "free" ∷ decimal key ∷ []
+words (Free key) = free_words key
 words Heaps = codes "heaps" ∷ []
 words Commit = codes "commit" ∷ []
 words Report = codes "report" ∷ []
 words Capacity = codes "capacity" ∷ []
-words (SetBudget t budget) = codes "budget" ∷ decimal t ∷ budget_word budget ∷ []
+words (SetBudget t budget) = budget_words t budget
 
 -- what the numbers and the name of a request for a piece may be
 pub record FitsRequest (r : Request) : Type 0 where

@@ -1,19 +1,15 @@
 -- What a configuration line of a Metal trace says. Each has one spelling.
-use Rattle.std.specs.Prelude.{◌≡◌, ℕ, List, [], ◌∷◌, Bool, true, false, Option, Some, None, codes}
+use Rattle.std.specs.Prelude.{◌≡◌, ℕ, List, [], ◌∷◌, Option, Some, None, codes}
+use Rattle.gpu_capture.specs.Metal.{yes_word, residency_words}
 use Rattle.gpu_trace_text.specs.Setting as settings
 use Rattle.gpu_trace_text.specs.Setting.{IsShared}
 use Rattle.gpu_trace_text.specs.declared.metal.setting.Setting.{Setting}
 use Rattle.gpu_trace_text.specs.declared.metal.setting.Setting.TheVariants.{Sets, Residency, Shared}
 
--- the word for a choice
-abbrev pub yes_word : Bool → List ℕ
-yes_word true = codes "yes"
-yes_word false = codes "no"
-
 -- block sizes and refusals are the same in each sort of traces
 abbrev pub words : Setting → List (List ℕ)
 words (Sets b) = codes "sets" ∷ yes_word b ∷ []
-words (Residency b) = codes "residency" ∷ yes_word b ∷ []
+words (Residency b) = residency_words b
 words (Shared s) = settings.words s
 
 -- what its numbers may be

@@ -1,23 +1,20 @@
 -- What a configuration line of a device trace says. Each has one spelling: its words, with decimal numbers and no leading zeros.
-use Rattle.std.specs.Prelude.{◌≡◌, ℕ, ◌<◌, ◌^◌, List, [], ◌∷◌, Option, Some, None, codes, FitsSigned}
+use Rattle.std.specs.Prelude.{◌≡◌, ℕ, ◌<◌, ◌^◌, List, Option, Some, None, FitsSigned}
 use Rattle.std.specs.Int.{w32}
-use Rattle.std.specs.Fmt.{decimal, signed_decimal}
 use Rattle.gpu_values.specs.Sizes.{Sizes, only_size, with_largest}
 use Rattle.gpu_device.specs.declared.refusal.Refusal.{Refusal}
 use Rattle.gpu_device.specs.declared.refusal.Refusal.TheVariants.{Code, Null}
+use Rattle.gpu_capture.specs.Words.{refuse_words, sizes_words}
+use Rattle.gpu_capture.specs.Vulkan.{heap_words, type_words, granularity_words}
 use Rattle.gpu_trace_text.specs.declared.device.setting.Setting.{Setting}
 use Rattle.gpu_trace_text.specs.declared.device.setting.Setting.TheVariants.{Heap, MemoryType, Granularity, Sizes as BlockSizes, Refuse}
 
-abbrev pub refusal_word : Refusal → List ℕ
-refusal_word (Code code) = signed_decimal code
-refusal_word Null = codes "null"
-
 abbrev pub words : Setting → List (List ℕ)
-words (Heap size) = codes "heap" ∷ decimal size ∷ []
-words (MemoryType flags heap) = codes "type" ∷ decimal flags ∷ decimal heap ∷ []
-words (Granularity bytes) = codes "granularity" ∷ decimal bytes ∷ []
-words (BlockSizes device host max_device max_host) = codes "sizes" ∷ decimal device ∷ decimal host ∷ decimal max_device ∷ decimal max_host ∷ []
-words (Refuse question refusal) = codes "refuse" ∷ decimal question ∷ refusal_word refusal ∷ []
+words (Heap size) = heap_words size
+words (MemoryType flags heap) = type_words flags heap
+words (Granularity bytes) = granularity_words bytes
+words (BlockSizes device host max_device max_host) = sizes_words device host max_device max_host
+words (Refuse question refusal) = refuse_words question refusal
 
 abbrev pub FitsRefusal : Refusal → Type 0
 FitsRefusal (Code code) = FitsSigned w32 code

@@ -2,6 +2,7 @@
 
 mod command;
 mod configuration;
+pub mod laws;
 mod line;
 mod looking;
 mod numbers;

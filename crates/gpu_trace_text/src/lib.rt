@@ -8,6 +8,7 @@ mod configuration;
 pub mod d3d12;
 pub mod device;
 mod hex;
+pub mod laws;
 mod line;
 pub mod metal;
 mod reply;

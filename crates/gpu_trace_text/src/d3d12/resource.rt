@@ -9,7 +9,7 @@ ghost use Rattle.gpu_device.specs.declared.d3d12.types.ResourceDimension.{Resour
 ghost use Rattle.gpu_d3d12.specs.declared.category.ResourceCategory.{ResourceCategory};
 ghost use Rattle.gpu_d3d12.specs.declared.question.ResourceStateOrBarrierLayout.{ResourceStateOrBarrierLayout};
 ghost use Rattle.gpu_run.specs.declared.d3d12.command.Memory.{Memory};
-ghost use Rattle.gpu_trace_text.specs.Ask.{location_word};
+ghost use Rattle.gpu_capture.specs.Words.{location_word};
 ghost use Rattle.gpu_block_session.specs.Words.{texts};
 ghost use Rattle.gpu_trace_text.specs.D3D12Resource.{category_word, place_word, dimension_word, initial_word, format_number, formats_word, clear_word};
 ghost use Rattle.gpu_trace_text.specs.D3D12Resource.{FitsInitial, FitsFormats, FitsClear, FitsMemory, SpellsDesc, SaysWanted};

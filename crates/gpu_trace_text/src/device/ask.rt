@@ -6,7 +6,9 @@ ghost use Rattle.gpu_values.specs.declared.memory_location.MemoryLocation.{Memor
 ghost use Rattle.gpu_device.specs.declared.vulkan.types.AllocationScheme.{AllocationScheme};
 ghost use Rattle.gpu_trace_text.specs.Hex.{hex, AreBytes};
 ghost use Rattle.gpu_block_session.specs.Words.{texts};
-ghost use Rattle.gpu_trace_text.specs.Ask.{location_word, linear_word, scheme_word, budget_word, FitsScheme, FitsBudget, IsLength, IsPayload, SaysRequest, Says};
+ghost use Rattle.gpu_capture.specs.Words.{location_word, budget_word};
+ghost use Rattle.gpu_capture.specs.Vulkan.{linear_word, scheme_word};
+ghost use Rattle.gpu_trace_text.specs.Ask.{FitsScheme, FitsBudget, IsLength, IsPayload, SaysRequest, Says};
 
 use crate::hex;
 use gpu_block_session::words::{name_of, number, small_number};

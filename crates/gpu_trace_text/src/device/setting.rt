@@ -4,7 +4,8 @@ ghost use Rattle.std.specs.Prelude.{◌≡◌, ◌≢◌, ℕ, ◌<◌, ◌^◌,
 ghost use Rattle.std.specs.Fmt.{decimal};
 ghost use Rattle.gpu_device.specs.declared.refusal.Refusal.{Refusal};
 ghost use Rattle.gpu_block_session.specs.Words.{texts};
-ghost use Rattle.gpu_trace_text.specs.Setting.{refusal_word, FitsRefusal, Says, sizes_of};
+ghost use Rattle.gpu_capture.specs.Words.{refusal_word};
+ghost use Rattle.gpu_trace_text.specs.Setting.{FitsRefusal, Says, sizes_of};
 
 use gpu_block_session::words::{code, number, small_number};
 use gpu_sim_base::Refusal;

@@ -4,7 +4,7 @@ ghost use Rattle.std.specs.Prelude.{◌≡◌, ◌≢◌, ℕ, ◌<◌, ◌^◌,
 ghost use Rattle.std.specs.Fmt.{decimal};
 ghost use Rattle.gpu_values.specs.declared.memory_location.MemoryLocation.{MemoryLocation};
 ghost use Rattle.gpu_device.specs.declared.metal.types.StorageMode.{StorageMode};
-ghost use Rattle.gpu_trace_text.specs.Ask.{location_word};
+ghost use Rattle.gpu_capture.specs.Words.{location_word};
 ghost use Rattle.gpu_block_session.specs.Words.{texts};
 ghost use Rattle.gpu_trace_text.specs.MetalCommand.{mode_word, FitsMode, SaysRequest, Says};
 

@@ -2,7 +2,8 @@
 
 ghost use Rattle.std.specs.Prelude.{◌≡◌, ◌≢◌, ◌∷◌, Bool, IfOk, MatchOption, codes};
 ghost use Rattle.gpu_block_session.specs.Words.{texts};
-ghost use Rattle.gpu_trace_text.specs.MetalSetting.{yes_word, Says};
+ghost use Rattle.gpu_capture.specs.Metal.{yes_word};
+ghost use Rattle.gpu_trace_text.specs.MetalSetting.{Says};
 
 use crate::device::setting;
 use crate::device::setting::setting_of;

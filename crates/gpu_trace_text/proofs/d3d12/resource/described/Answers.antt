@@ -1,5 +1,5 @@
 use Rattle.std.proofs.Common.{◌∷◌, ap, sym}
-use Rattle.gpu_trace_text.specs.Ask.{location_word}
+use Rattle.gpu_capture.specs.Words.{location_word}
 use Rattle.gpu_trace_text.specs.D3D12Resource.{place_word, category_word}
 use Rattle.gpu_trace_text.proofs.D3D12Meaning.{nine_are}
 use Rattle.gpu_trace_text.proofs.d3d12.resource.described.Goals as goal

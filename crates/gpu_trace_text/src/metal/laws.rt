@@ -1,0 +1,44 @@
+//! Laws of captures of Metal, each the contract of a function that does nothing: what a capture wrote reads back.
+
+ghost use Rattle.std.specs.Prelude.{◌≡◌, ℕ, ◌<◌, ◌^◌, ◌++◌, List, Option};
+ghost use Rattle.gpu_capture.specs.declared.request.Request.TheVariants as requests;
+ghost use Rattle.gpu_capture.specs.declared.request.MetalRequest.{MetalRequest};
+ghost use Rattle.gpu_capture.specs.Line.{line_of};
+ghost use Rattle.gpu_capture.specs.Requests.{alloc_line, move_line};
+ghost use Rattle.gpu_capture.specs.Words.{budget_words, free_words};
+ghost use Rattle.gpu_run.specs.declared.metal.command.Command.TheVariants.{Free, SetBudget};
+ghost use Rattle.gpu_trace_text.specs.Ask.{FitsBudget};
+ghost use Rattle.gpu_trace_text.specs.Captured.{BeginsWith};
+ghost use Rattle.gpu_trace_text.specs.MetalCaptured.{FitsCaptured, IsAlloc, IsMove};
+ghost use Rattle.gpu_trace_text.specs.MetalLine.{Means};
+ghost use Rattle.gpu_trace_text.specs.declared.metal.line.Line.TheVariants as lines;
+
+use std::alloc::Global;
+
+/// An allocation is read as just that: its number, what was asked for, and its name as a trace has it.
+pub fn allocation_reads_back(alloc: Global)
+    ensures { (number : ℕ) (r : MetalRequest) (rest : List ℕ) → number < 2 ^ 64 → FitsCaptured r
+        → BeginsWith Means (IsAlloc number r) (alloc_line number (requests.Metal r) ++ rest) rest }
+{}
+
+/// A second place that was asked for.
+pub fn move_reads_back(alloc: Global)
+    ensures { (from to : ℕ) (r : MetalRequest) (rest : List ℕ) → from < 2 ^ 64 → to < 2 ^ 64
+        → FitsCaptured r
+        → BeginsWith Means (IsMove from to r) (move_line from to (requests.Metal r) ++ rest) rest }
+{}
+
+/// A free.
+pub fn free_reads_back()
+    ensures { (number : ℕ) (rest : List ℕ) → number < 2 ^ 64
+        → BeginsWith Means (λ l. l ≡ lines.Asks (Free number)) (line_of (free_words number) ++ rest)
+        rest }
+{}
+
+/// A budget.
+pub fn budget_reads_back()
+    ensures { (memory_type : ℕ) (budget : Option ℕ) (rest : List ℕ) → memory_type < 2 ^ 64
+        → FitsBudget budget
+        → BeginsWith Means (λ l. l ≡ lines.Asks (SetBudget memory_type budget))
+        (line_of (budget_words memory_type budget) ++ rest) rest }
+{}
