@@ -288,7 +288,7 @@ setting_not_destroy (Granularity bytes) e = cc
 setting_not_destroy (Sizes device host max_device max_host) e = cc
 setting_not_destroy (Refuse question refusal) e = cc
 
-setting-one : (s t : Setting) → setting.Fits s → setting.Fits t → setting.words s ≡ setting.words t → t ≡ s
+pub setting-one : (s t : Setting) → setting.Fits s → setting.Fits t → setting.words s ≡ setting.words t → t ≡ s
 setting-one (Heap a) (Heap b) f g e = let k : decimal b ≡ decimal a = cc in ap Heap (decimal_injective b a g f k)
 setting-one (MemoryType a b) (MemoryType x y) f g e =
     let k : decimal x ≡ decimal a = cc in

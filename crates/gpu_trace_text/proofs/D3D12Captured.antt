@@ -1,17 +1,17 @@
 -- What a capture wrote of DirectX 12 reads back.
 use Rattle.std.proofs.Common.{◌≡◌, refl, sym, ap, ◌∙◌, subst, Bool, true, false, ℕ, ◌<◌, ◌^◌, List, [], ◌∷◌, ◌++◌, Option, arith, if◌then◌else◌}
-use Rattle.std.specs.Prelude.{codes, string_bytes, Ok, Err}
+use Rattle.std.specs.Prelude.{codes, string_bytes, Result, Ok, Err, ℤ}
 use Rattle.std.specs.Str.{IsAscii, bytes_eq}
-use Rattle.std.specs.Fmt.{decimal}
+use Rattle.std.specs.Fmt.{decimal, signed_decimal}
 use Rattle.std.specs.declared.alloc.Global.{Global}
 use Rattle.std.proofs.lemmas.Bool.{false≢true}
-use Rattle.std.proofs.lemmas.Fmt.{decimal_injective}
+use Rattle.std.proofs.lemmas.Fmt.{decimal_injective, signed_decimal_injective}
 use Rattle.gpu_capture.specs.declared.request.D3D12Request.{D3D12Request}
 use Rattle.gpu_capture.specs.D3D12 as captured
 use Rattle.gpu_capture.specs.D3D12.{d3d12_words}
 use Rattle.gpu_capture.specs.Line.{line_of, name_word}
-use Rattle.gpu_capture.specs.Words.{location_word, budget_word, alloc_words, move_words, rename_words}
-use Rattle.gpu_capture.proofs.Lines.{IsClean, AreClean, joined, joined-printed, lines-first, words-joined, clean_decimal, clean_name}
+use Rattle.gpu_capture.specs.Words.{location_word, refusal_word, budget_word, alloc_words, move_words, rename_words}
+use Rattle.gpu_capture.proofs.Lines.{IsClean, AreClean, joined, joined-printed, lines-first, words-joined, clean_decimal, clean_signed, clean_name}
 use Rattle.gpu_run.specs.declared.d3d12.command.Request.{Request}
 use Rattle.gpu_run.specs.declared.d3d12.command.Command.{Command}
 use Rattle.gpu_run.specs.declared.d3d12.command.Command.TheVariants as asked
@@ -28,10 +28,15 @@ use Rattle.gpu_trace_text.specs.declared.d3d12.setting.Setting.{Setting}
 use Rattle.gpu_trace_text.specs.declared.d3d12.setting.Setting.TheVariants as settings
 use Rattle.gpu_trace_text.specs.declared.d3d12.line.Line.{Line}
 use Rattle.gpu_trace_text.specs.declared.d3d12.line.Line.TheVariants as lines
-use Rattle.gpu_trace_text.proofs.CapturedWords.{clean_text, clean_location, clean_budget, location-one, budget-one, ascii, is_name, text_of, other}
+use Rattle.gpu_trace_text.proofs.CapturedWords.{clean_text, clean_location, clean_budget, location-one, budget-one, ascii, is_name, text_of, other, starts, clean_refusal}
+use Rattle.gpu_trace_text.proofs.Captured.{setting-one}
+use Rattle.gpu_trace_text.specs.Setting.{words as shared_words}
+use Rattle.gpu_trace_text.specs.declared.device.setting.Setting.{Setting as SharedSetting}
 use Rattle.gpu_device.specs.declared.d3d12.types.ResourceHeapTier.TheVariants.{Tier1, Tier2}
+use Rattle.gpu_trace_text.specs.declared.d3d12.setting.Version as versions_of
 use Rattle.gpu_trace_text.specs.declared.d3d12.setting.Version.TheVariants as versions
-use Rattle.gpu_block_session.proofs.Canonical.{differ}
+use Rattle.gpu_device.specs.declared.d3d12.types.ResourceHeapTier.{ResourceHeapTier}
+use Rattle.gpu_block_session.proofs.Canonical.{differ, mag_below}
 use Rattle.gpu_trace_text.specs.D3D12Resource.{category_word}
 use Rattle.gpu_capture.specs.declared.request.Category as categories
 use Rattle.gpu_capture.specs.declared.request.Category.TheVariants.{Buffer, Target, Texture}
@@ -275,3 +280,118 @@ budget_reads t b rest small f =
     (clean_text (codes "budget") refl, (clean_decimal t small, (clean_budget b f, tt)))
     (λ e. absurd (omega arith))
     (λ l reads. let found = asked_only (asked.SetBudget t b) (command.words (asked.SetBudget t b)) refl refl (small, f) l reads in found.1 ∙ budget_one t b small f found.0 found.2)
+
+-- ---- settings
+
+abbrev is_setting : List ℕ → Bool
+is_setting w = if bytes_eq w (codes "tier") then true else (if bytes_eq w (codes "version") then true else (if bytes_eq w (codes "heap") then true else (if bytes_eq w (codes "type") then true else (if bytes_eq w (codes "granularity") then true else (if bytes_eq w (codes "sizes") then true else (if bytes_eq w (codes "refuse") then true else false))))))
+
+abbrev says_setting : List (List ℕ) → Bool
+says_setting [] = false
+says_setting (w ∷ ws) = is_setting w
+
+setting_says : (s : Setting) → says_setting (setting.words s) ≡ true
+setting_says (settings.Tier (Ok Tier1)) = refl
+setting_says (settings.Tier (Ok Tier2)) = refl
+setting_says (settings.Tier (Err code)) = refl
+setting_says (settings.Interface versions.Device) = refl
+setting_says (settings.Interface versions.Device10) = refl
+setting_says (settings.Interface versions.Device12) = refl
+setting_says (settings.Shared (shared.Heap size)) = refl
+setting_says (settings.Shared (shared.MemoryType flags heap)) = refl
+setting_says (settings.Shared (shared.Granularity bytes)) = refl
+setting_says (settings.Shared (shared.Sizes device host max_device max_host)) = refl
+setting_says (settings.Shared (shared.Refuse question refusal)) = refl
+
+command_says : (c : Command) → says_setting (command.words c) ≡ false
+command_says (asked.Alloc key q) = refl
+command_says (asked.Move key to q) = refl
+command_says (asked.Free key) = refl
+command_says (asked.Rename key name) = refl
+command_says (asked.Create key wanted) = refl
+command_says (asked.Release key) = refl
+command_says asked.Leaks = refl
+command_says asked.Report = refl
+command_says asked.Capacity = refl
+command_says (asked.Committed t) = refl
+command_says (asked.SetBudget t budget) = refl
+
+shared_not_tier : (s : SharedSetting) → starts (codes "tier") (shared_words s) ≡ false
+shared_not_tier (shared.Heap size) = refl
+shared_not_tier (shared.MemoryType flags heap) = refl
+shared_not_tier (shared.Granularity bytes) = refl
+shared_not_tier (shared.Sizes device host max_device max_host) = refl
+shared_not_tier (shared.Refuse question refusal) = refl
+
+shared_not_version : (s : SharedSetting) → starts (codes "version") (shared_words s) ≡ false
+shared_not_version (shared.Heap size) = refl
+shared_not_version (shared.MemoryType flags heap) = refl
+shared_not_version (shared.Granularity bytes) = refl
+shared_not_version (shared.Sizes device host max_device max_host) = refl
+shared_not_version (shared.Refuse question refusal) = refl
+
+tier-one : (a b : Result ResourceHeapTier ℤ) → setting.FitsTier a → setting.FitsTier b → setting.tier_words a ≡ setting.tier_words b → b ≡ a
+tier-one (Ok Tier1) (Ok Tier1) f g e = refl
+tier-one (Ok Tier2) (Ok Tier2) f g e = refl
+tier-one (Ok Tier1) (Ok Tier2) f g e = absurd (other (codes "1") e refl refl)
+tier-one (Ok Tier2) (Ok Tier1) f g e = absurd (other (codes "2") e refl refl)
+tier-one (Ok Tier1) (Err code) f g e = absurd (other (codes "1") e refl refl)
+tier-one (Ok Tier2) (Err code) f g e = absurd (other (codes "2") e refl refl)
+tier-one (Err code) (Ok Tier1) f g e = absurd (other (codes "refused") e refl refl)
+tier-one (Err code) (Ok Tier2) f g e = absurd (other (codes "refused") e refl refl)
+tier-one (Err a) (Err b) f g e =
+    let k : signed_decimal b ≡ signed_decimal a = cc in ap Err (signed_decimal_injective b a (mag_below b g) (mag_below a f) k)
+
+version-one : (a b : versions_of.Version) → setting.version_word a ≡ setting.version_word b → b ≡ a
+version-one versions.Device versions.Device e = refl
+version-one versions.Device10 versions.Device10 e = refl
+version-one versions.Device12 versions.Device12 e = refl
+version-one a b e = absurd (differ (setting.version_word a) (setting.version_word b) false refl refl e)
+
+own_setting-one : (s t : Setting) → setting.Fits s → setting.Fits t → setting.words s ≡ setting.words t → t ≡ s
+own_setting-one (settings.Tier a) (settings.Tier b) f g e = let k : setting.tier_words a ≡ setting.tier_words b = cc in ap settings.Tier (tier-one a b f g k)
+own_setting-one (settings.Tier a) (settings.Interface b) f g e = absurd (other (codes "tier") e refl refl)
+own_setting-one (settings.Tier a) (settings.Shared b) f g e = absurd (other (codes "tier") e refl (shared_not_tier b))
+own_setting-one (settings.Interface a) (settings.Tier b) f g e = absurd (other (codes "version") e refl refl)
+own_setting-one (settings.Interface a) (settings.Interface b) f g e =
+    let k : setting.version_word a ≡ setting.version_word b = cc in ap settings.Interface (version-one a b k)
+own_setting-one (settings.Interface a) (settings.Shared b) f g e = absurd (other (codes "version") e refl (shared_not_version b))
+own_setting-one (settings.Shared a) (settings.Tier b) f g e = absurd (other (codes "tier") (sym e) refl (shared_not_tier a))
+own_setting-one (settings.Shared a) (settings.Interface b) f g e = absurd (other (codes "version") (sym e) refl (shared_not_version a))
+own_setting-one (settings.Shared a) (settings.Shared b) f g e = ap settings.Shared (setting-one a b f.1 g.1 e)
+
+setting_closes : (s : Setting) → setting.Fits s → (l : Line) → Reads (setting.words s) l → l ≡ lines.Configures s
+setting_closes s f lines.Blank r = absurd r
+setting_closes s f (lines.Configures t) r = ap lines.Configures (own_setting-one s t f r.fits r.is)
+setting_closes s f lines.New r = absurd (false≢true (ap says_setting (sym r) ∙ setting_says s))
+setting_closes s f (lines.Asks c) r = absurd (false≢true (sym (command_says c) ∙ (ap says_setting (sym r.is) ∙ setting_says s)))
+setting_closes s f lines.Asked r = absurd (false≢true (ap says_setting (sym r) ∙ setting_says s))
+setting_closes s f lines.Destroy r = absurd (false≢true (ap says_setting (sym r) ∙ setting_says s))
+setting_closes s f lines.Bad r = absurd (r.setting s (record { is = refl; fits = f }))
+
+configures : (s : Setting) (w : List ℕ) (ws : List (List ℕ)) (rest : List ℕ) → setting.words s ≡ w ∷ ws → setting.Fits s → AreClean (w ∷ ws) → (IsRemark (joined (w ∷ ws)) → ⊥)
+    → BeginsWith Means (λ l. l ≡ lines.Configures s) (line_of (setting.words s) ++ rest) rest
+configures s w ws rest is f clean plain =
+    subst (λ (vs : List (List ℕ)). BeginsWith Means (λ l. l ≡ lines.Configures s) (line_of vs ++ rest) rest) (sym is)
+    (begins (λ l. l ≡ lines.Configures s) w ws rest clean plain (λ l reads. setting_closes s f l (subst (λ (vs : List (List ℕ)). Reads vs l) (sym is) reads)))
+
+pub setting_reads : (s : Setting) (rest : List ℕ) → setting.Fits s → BeginsWith Means (λ l. l ≡ lines.Configures s) (line_of (setting.words s) ++ rest) rest
+setting_reads (settings.Tier (Ok Tier1)) rest f =
+    configures (settings.Tier (Ok Tier1)) (codes "tier") (codes "1" ∷ []) rest refl f (clean_text (codes "tier") refl, (clean_text (codes "1") refl, tt)) (λ e. absurd (omega arith))
+setting_reads (settings.Tier (Ok Tier2)) rest f =
+    configures (settings.Tier (Ok Tier2)) (codes "tier") (codes "2" ∷ []) rest refl f (clean_text (codes "tier") refl, (clean_text (codes "2") refl, tt)) (λ e. absurd (omega arith))
+setting_reads (settings.Tier (Err code)) rest f =
+    configures (settings.Tier (Err code)) (codes "tier") (codes "refused" ∷ signed_decimal code ∷ []) rest refl f (clean_text (codes "tier") refl, (clean_text (codes "refused") refl, (clean_signed code f, tt))) (λ e. absurd (omega arith))
+setting_reads (settings.Interface versions.Device) rest f =
+    configures (settings.Interface versions.Device) (codes "version") (codes "device" ∷ []) rest refl f (clean_text (codes "version") refl, (clean_text (codes "device") refl, tt)) (λ e. absurd (omega arith))
+setting_reads (settings.Interface versions.Device10) rest f =
+    configures (settings.Interface versions.Device10) (codes "version") (codes "device10" ∷ []) rest refl f (clean_text (codes "version") refl, (clean_text (codes "device10") refl, tt)) (λ e. absurd (omega arith))
+setting_reads (settings.Interface versions.Device12) rest f =
+    configures (settings.Interface versions.Device12) (codes "version") (codes "device12" ∷ []) rest refl f (clean_text (codes "version") refl, (clean_text (codes "device12") refl, tt)) (λ e. absurd (omega arith))
+setting_reads (settings.Shared (shared.Heap size)) rest f = absurd f.0
+setting_reads (settings.Shared (shared.MemoryType flags heap)) rest f = absurd f.0
+setting_reads (settings.Shared (shared.Granularity bytes)) rest f = absurd f.0
+setting_reads (settings.Shared (shared.Sizes device host max_device max_host)) rest f =
+    configures (settings.Shared (shared.Sizes device host max_device max_host)) (codes "sizes") (decimal device ∷ decimal host ∷ decimal max_device ∷ decimal max_host ∷ []) rest refl f (clean_text (codes "sizes") refl, (clean_decimal device f.1.0, (clean_decimal host f.1.1, (clean_decimal max_device f.1.2, (clean_decimal max_host f.1.3, tt))))) (λ e. absurd (omega arith))
+setting_reads (settings.Shared (shared.Refuse question refusal)) rest f =
+    configures (settings.Shared (shared.Refuse question refusal)) (codes "refuse") (decimal question ∷ refusal_word refusal ∷ []) rest refl f (clean_text (codes "refuse") refl, (clean_decimal question f.1.1, (clean_refusal refusal f.1.2, tt))) (λ e. absurd (omega arith))

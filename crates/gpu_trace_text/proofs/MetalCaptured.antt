@@ -9,7 +9,7 @@ use Rattle.std.proofs.lemmas.Fmt.{decimal_injective}
 use Rattle.gpu_capture.specs.declared.request.MetalRequest.{MetalRequest}
 use Rattle.gpu_capture.specs.Metal.{metal_words}
 use Rattle.gpu_capture.specs.Line.{line_of, name_word}
-use Rattle.gpu_capture.specs.Words.{location_word, budget_word, alloc_words, move_words}
+use Rattle.gpu_capture.specs.Words.{location_word, refusal_word, budget_word, alloc_words, move_words}
 use Rattle.gpu_capture.proofs.Lines.{AreClean, joined, joined-printed, lines-first, words-joined, clean_decimal, clean_name}
 use Rattle.gpu_run.specs.declared.metal.command.Request.{Request}
 use Rattle.gpu_run.specs.declared.metal.command.Command.{Command}
@@ -27,10 +27,15 @@ use Rattle.gpu_trace_text.specs.declared.metal.setting.Setting.{Setting}
 use Rattle.gpu_trace_text.specs.declared.metal.setting.Setting.TheVariants as settings
 use Rattle.gpu_trace_text.specs.declared.metal.line.Line.{Line}
 use Rattle.gpu_trace_text.specs.declared.metal.line.Line.TheVariants as lines
-use Rattle.gpu_trace_text.proofs.CapturedWords.{clean_text, clean_location, clean_budget, location-one, budget-one, ascii, is_name, text_of, other}
+use Rattle.gpu_trace_text.proofs.CapturedWords.{clean_text, clean_location, clean_budget, location-one, budget-one, ascii, is_name, text_of, other, starts, clean_refusal}
+use Rattle.gpu_trace_text.proofs.Captured.{setting-one}
+use Rattle.gpu_trace_text.specs.Setting.{words as shared_words}
+use Rattle.gpu_trace_text.specs.declared.device.setting.Setting.{Setting as SharedSetting}
 use Rattle.gpu_trace_text.specs.declared.metal.line.Look.{Look}
 use Rattle.gpu_trace_text.specs.declared.metal.line.Look.TheVariants.{Members, Committed, Asked}
 use Rattle.gpu_trace_text.specs.MetalLine.{look_words}
+use Rattle.gpu_capture.specs.Metal.{yes_word}
+use Rattle.gpu_block_session.proofs.Canonical.{differ}
 
 -- ---- which words begin a command of a capture
 
@@ -223,3 +228,122 @@ budget_reads t b rest small f =
     (clean_text (codes "budget") refl, (clean_decimal t small, (clean_budget b f, tt)))
     (λ e. absurd (omega arith))
     (λ l reads. let found = asked_only (asked.SetBudget t b) (command.words (asked.SetBudget t b)) refl refl (small, f) l reads in found.1 ∙ budget_one t b small f found.0 found.2)
+
+commit_one : (d : Command) → command.Spells (command.words asked.Commit) d → lines.Asks d ≡ lines.Asks asked.Commit
+commit_one asked.Commit s = refl
+commit_one (asked.Alloc key q) s = absurd (other (codes "commit") s.is refl refl)
+commit_one (asked.Move key to q) s = absurd (other (codes "commit") s.is refl refl)
+commit_one (asked.Buffer key length location name) s = absurd (other (codes "commit") s.is refl refl)
+commit_one (asked.AccelerationStructure key size location name) s = absurd (other (codes "commit") s.is refl refl)
+commit_one (asked.Texture key t name) s = absurd (other (codes "commit") s.is refl refl)
+commit_one (asked.Free key) s = absurd (other (codes "commit") s.is refl refl)
+commit_one asked.Heaps s = absurd (other (codes "commit") s.is refl refl)
+commit_one asked.Report s = absurd (other (codes "commit") s.is refl refl)
+commit_one asked.Capacity s = absurd (other (codes "commit") s.is refl refl)
+commit_one (asked.SetBudget t budget) s = absurd (other (codes "commit") s.is refl refl)
+
+pub commit_reads : (rest : List ℕ) → BeginsWith Means (λ l. l ≡ lines.Asks asked.Commit) (line_of (codes "commit" ∷ []) ++ rest) rest
+commit_reads rest =
+    begins (λ l. l ≡ lines.Asks asked.Commit) (codes "commit") [] rest
+    (clean_text (codes "commit") refl, tt)
+    (λ e. absurd (omega arith))
+    (λ l reads. let found = asked_only asked.Commit (command.words asked.Commit) refl refl tt l reads in found.1 ∙ commit_one found.0 found.2)
+
+-- ---- settings
+
+abbrev is_setting : List ℕ → Bool
+is_setting w = if bytes_eq w (codes "sets") then true else (if bytes_eq w (codes "residency") then true else (if bytes_eq w (codes "heap") then true else (if bytes_eq w (codes "type") then true else (if bytes_eq w (codes "granularity") then true else (if bytes_eq w (codes "sizes") then true else (if bytes_eq w (codes "refuse") then true else false))))))
+
+abbrev says_setting : List (List ℕ) → Bool
+says_setting [] = false
+says_setting (w ∷ ws) = is_setting w
+
+setting_says : (s : Setting) → says_setting (setting.words s) ≡ true
+setting_says (settings.Sets b) = refl
+setting_says (settings.Residency b) = refl
+setting_says (settings.Shared (shared.Heap size)) = refl
+setting_says (settings.Shared (shared.MemoryType flags heap)) = refl
+setting_says (settings.Shared (shared.Granularity bytes)) = refl
+setting_says (settings.Shared (shared.Sizes device host max_device max_host)) = refl
+setting_says (settings.Shared (shared.Refuse question refusal)) = refl
+
+command_says : (c : Command) → says_setting (command.words c) ≡ false
+command_says (asked.Alloc key q) = refl
+command_says (asked.Move key to q) = refl
+command_says (asked.Buffer key length location name) = refl
+command_says (asked.AccelerationStructure key size location name) = refl
+command_says (asked.Texture key t name) = refl
+command_says (asked.Free key) = refl
+command_says asked.Heaps = refl
+command_says asked.Commit = refl
+command_says asked.Report = refl
+command_says asked.Capacity = refl
+command_says (asked.SetBudget t budget) = refl
+
+look_says : (l : Look) → says_setting (look_words l) ≡ false
+look_says Members = refl
+look_says Committed = refl
+look_says Asked = refl
+
+shared_not_sets : (s : SharedSetting) → starts (codes "sets") (shared_words s) ≡ false
+shared_not_sets (shared.Heap size) = refl
+shared_not_sets (shared.MemoryType flags heap) = refl
+shared_not_sets (shared.Granularity bytes) = refl
+shared_not_sets (shared.Sizes device host max_device max_host) = refl
+shared_not_sets (shared.Refuse question refusal) = refl
+
+shared_not_residency : (s : SharedSetting) → starts (codes "residency") (shared_words s) ≡ false
+shared_not_residency (shared.Heap size) = refl
+shared_not_residency (shared.MemoryType flags heap) = refl
+shared_not_residency (shared.Granularity bytes) = refl
+shared_not_residency (shared.Sizes device host max_device max_host) = refl
+shared_not_residency (shared.Refuse question refusal) = refl
+
+yes-one : (a b : Bool) → yes_word a ≡ yes_word b → b ≡ a
+yes-one true true e = refl
+yes-one false false e = refl
+yes-one true false e = absurd (differ (yes_word true) (yes_word false) false refl refl e)
+yes-one false true e = absurd (differ (yes_word false) (yes_word true) false refl refl e)
+
+own_setting-one : (s t : Setting) → setting.Fits s → setting.Fits t → setting.words s ≡ setting.words t → t ≡ s
+own_setting-one (settings.Sets a) (settings.Sets b) f g e = let k : yes_word a ≡ yes_word b = cc in ap settings.Sets (yes-one a b k)
+own_setting-one (settings.Sets a) (settings.Residency b) f g e = absurd (other (codes "sets") e refl refl)
+own_setting-one (settings.Sets a) (settings.Shared b) f g e = absurd (other (codes "sets") e refl (shared_not_sets b))
+own_setting-one (settings.Residency a) (settings.Sets b) f g e = absurd (other (codes "residency") e refl refl)
+own_setting-one (settings.Residency a) (settings.Residency b) f g e = let k : yes_word a ≡ yes_word b = cc in ap settings.Residency (yes-one a b k)
+own_setting-one (settings.Residency a) (settings.Shared b) f g e = absurd (other (codes "residency") e refl (shared_not_residency b))
+own_setting-one (settings.Shared a) (settings.Sets b) f g e = absurd (other (codes "sets") (sym e) refl (shared_not_sets a))
+own_setting-one (settings.Shared a) (settings.Residency b) f g e = absurd (other (codes "residency") (sym e) refl (shared_not_residency a))
+own_setting-one (settings.Shared a) (settings.Shared b) f g e = ap settings.Shared (setting-one a b f.1 g.1 e)
+
+setting_closes : (s : Setting) → setting.Fits s → (l : Line) → Reads (setting.words s) l → l ≡ lines.Configures s
+setting_closes s f lines.Blank r = absurd r
+setting_closes s f (lines.Configures t) r = ap lines.Configures (own_setting-one s t f r.fits r.is)
+setting_closes s f lines.New r = absurd (false≢true (ap says_setting (sym r) ∙ setting_says s))
+setting_closes s f (lines.Asks c) r = absurd (false≢true (sym (command_says c) ∙ (ap says_setting (sym r.is) ∙ setting_says s)))
+setting_closes s f (lines.Looks k) r = absurd (false≢true (sym (look_says k) ∙ (ap says_setting (sym r) ∙ setting_says s)))
+setting_closes s f lines.Destroy r = absurd (false≢true (ap says_setting (sym r) ∙ setting_says s))
+setting_closes s f lines.Bad r = absurd (r.setting s (record { is = refl; fits = f }))
+
+configures : (s : Setting) (w : List ℕ) (ws : List (List ℕ)) (rest : List ℕ) → setting.words s ≡ w ∷ ws → setting.Fits s → AreClean (w ∷ ws) → (IsRemark (joined (w ∷ ws)) → ⊥)
+    → BeginsWith Means (λ l. l ≡ lines.Configures s) (line_of (setting.words s) ++ rest) rest
+configures s w ws rest is f clean plain =
+    subst (λ (vs : List (List ℕ)). BeginsWith Means (λ l. l ≡ lines.Configures s) (line_of vs ++ rest) rest) (sym is)
+    (begins (λ l. l ≡ lines.Configures s) w ws rest clean plain (λ l reads. setting_closes s f l (subst (λ (vs : List (List ℕ)). Reads vs l) (sym is) reads)))
+
+pub setting_reads : (s : Setting) (rest : List ℕ) → setting.Fits s → BeginsWith Means (λ l. l ≡ lines.Configures s) (line_of (setting.words s) ++ rest) rest
+setting_reads (settings.Sets true) rest f =
+    configures (settings.Sets true) (codes "sets") (codes "yes" ∷ []) rest refl f (clean_text (codes "sets") refl, (clean_text (codes "yes") refl, tt)) (λ e. absurd (omega arith))
+setting_reads (settings.Residency true) rest f =
+    configures (settings.Residency true) (codes "residency") (codes "yes" ∷ []) rest refl f (clean_text (codes "residency") refl, (clean_text (codes "yes") refl, tt)) (λ e. absurd (omega arith))
+setting_reads (settings.Sets false) rest f =
+    configures (settings.Sets false) (codes "sets") (codes "no" ∷ []) rest refl f (clean_text (codes "sets") refl, (clean_text (codes "no") refl, tt)) (λ e. absurd (omega arith))
+setting_reads (settings.Residency false) rest f =
+    configures (settings.Residency false) (codes "residency") (codes "no" ∷ []) rest refl f (clean_text (codes "residency") refl, (clean_text (codes "no") refl, tt)) (λ e. absurd (omega arith))
+setting_reads (settings.Shared (shared.Heap size)) rest f = absurd f.0
+setting_reads (settings.Shared (shared.MemoryType flags heap)) rest f = absurd f.0
+setting_reads (settings.Shared (shared.Granularity bytes)) rest f = absurd f.0
+setting_reads (settings.Shared (shared.Sizes device host max_device max_host)) rest f =
+    configures (settings.Shared (shared.Sizes device host max_device max_host)) (codes "sizes") (decimal device ∷ decimal host ∷ decimal max_device ∷ decimal max_host ∷ []) rest refl f (clean_text (codes "sizes") refl, (clean_decimal device f.1.0, (clean_decimal host f.1.1, (clean_decimal max_device f.1.2, (clean_decimal max_host f.1.3, tt))))) (λ e. absurd (omega arith))
+setting_reads (settings.Shared (shared.Refuse question refusal)) rest f =
+    configures (settings.Shared (shared.Refuse question refusal)) (codes "refuse") (decimal question ∷ refusal_word refusal ∷ []) rest refl f (clean_text (codes "refuse") refl, (clean_decimal question f.1.1, (clean_refusal refusal f.1.2, tt))) (λ e. absurd (omega arith))

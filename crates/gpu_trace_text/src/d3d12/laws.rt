@@ -11,6 +11,8 @@ ghost use Rattle.gpu_trace_text.specs.Ask.{FitsBudget};
 ghost use Rattle.gpu_trace_text.specs.Captured.{BeginsWith};
 ghost use Rattle.gpu_trace_text.specs.D3D12Captured.{FitsCaptured, IsAlloc, IsMove, IsRename};
 ghost use Rattle.gpu_trace_text.specs.D3D12Line.{Means};
+ghost use Rattle.gpu_trace_text.specs.D3D12Setting.{words as setting_words, Fits as FitsSetting};
+ghost use Rattle.gpu_trace_text.specs.declared.d3d12.setting.Setting.{Setting};
 ghost use Rattle.gpu_trace_text.specs.declared.d3d12.line.Line.TheVariants as lines;
 
 use std::alloc::Global;
@@ -48,4 +50,10 @@ pub fn budget_reads_back()
         → FitsBudget budget
         → BeginsWith Means (λ l. l ≡ lines.Asks (SetBudget memory_type budget))
         (line_of (budget_words memory_type budget) ++ rest) rest }
+{}
+
+/// Block sizes, a question that was refused, and the device's heap tier: the reader's words are the capture's.
+pub fn setting_reads_back()
+    ensures { (s : Setting) (rest : List ℕ) → FitsSetting s
+        → BeginsWith Means (λ l. l ≡ lines.Configures s) (line_of (setting_words s) ++ rest) rest }
 {}

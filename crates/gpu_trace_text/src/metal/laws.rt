@@ -1,16 +1,18 @@
 //! Laws of captures of Metal, each the contract of a function that does nothing: what a capture wrote reads back.
 
-ghost use Rattle.std.specs.Prelude.{◌≡◌, ℕ, ◌<◌, ◌^◌, ◌++◌, List, Option};
+ghost use Rattle.std.specs.Prelude.{◌≡◌, ℕ, ◌<◌, ◌^◌, [], ◌∷◌, ◌++◌, List, Option, codes};
 ghost use Rattle.gpu_capture.specs.declared.request.Request.TheVariants as requests;
 ghost use Rattle.gpu_capture.specs.declared.request.MetalRequest.{MetalRequest};
 ghost use Rattle.gpu_capture.specs.Line.{line_of};
 ghost use Rattle.gpu_capture.specs.Requests.{alloc_line, move_line};
 ghost use Rattle.gpu_capture.specs.Words.{budget_words, free_words};
-ghost use Rattle.gpu_run.specs.declared.metal.command.Command.TheVariants.{Free, SetBudget};
+ghost use Rattle.gpu_run.specs.declared.metal.command.Command.TheVariants.{Commit, Free, SetBudget};
 ghost use Rattle.gpu_trace_text.specs.Ask.{FitsBudget};
 ghost use Rattle.gpu_trace_text.specs.Captured.{BeginsWith};
 ghost use Rattle.gpu_trace_text.specs.MetalCaptured.{FitsCaptured, IsAlloc, IsMove};
 ghost use Rattle.gpu_trace_text.specs.MetalLine.{Means};
+ghost use Rattle.gpu_trace_text.specs.MetalSetting.{words as setting_words, Fits as FitsSetting};
+ghost use Rattle.gpu_trace_text.specs.declared.metal.setting.Setting.{Setting};
 ghost use Rattle.gpu_trace_text.specs.declared.metal.line.Line.TheVariants as lines;
 
 use std::alloc::Global;
@@ -41,4 +43,16 @@ pub fn budget_reads_back()
         → FitsBudget budget
         → BeginsWith Means (λ l. l ≡ lines.Asks (SetBudget memory_type budget))
         (line_of (budget_words memory_type budget) ++ rest) rest }
+{}
+
+/// That the residency set was committed.
+pub fn commit_reads_back()
+    ensures { (rest : List ℕ)
+        → BeginsWith Means (λ l. l ≡ lines.Asks Commit) (line_of (codes "commit" ∷ []) ++ rest) rest }
+{}
+
+/// Block sizes, a question that was refused, and whether there is a residency set: the reader's words are the capture's.
+pub fn setting_reads_back()
+    ensures { (s : Setting) (rest : List ℕ) → FitsSetting s
+        → BeginsWith Means (λ l. l ≡ lines.Configures s) (line_of (setting_words s) ++ rest) rest }
 {}
