@@ -8,7 +8,7 @@ use Rattle.std.proofs.lemmas.List.Edits.{length-insert, get_or-insert_at, get_or
 use Rattle.gpu_block_gaps.specs.declared.index.Gap.{Gap}
 use Rattle.gpu_block_gaps.specs.Index.{Before, HasKey, HasNoKey, IsInserted}
 
-one_order : (a b : Gap) → Before a b → Before b a → ⊥
+pub one_order : (a b : Gap) → Before a b → Before b a → ⊥
 one_order a b (inl x) (inl y) = omega arith
 one_order a b (inl x) (inr y) = let e = y.0 in omega arith
 one_order a b (inr x) (inl y) = let e = x.0 in omega arith

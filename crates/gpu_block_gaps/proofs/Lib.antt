@@ -25,3 +25,5 @@ pub mod Anew
 pub mod Rekeyed
 pub mod Moving
 pub mod Below
+pub mod Lasts
+pub mod Scanning

@@ -1,5 +1,5 @@
 -- What is seen of an index.
-use Rattle.std.proofs.Common.{◌≡◌, ◌≢◌, ℕ, zero, suc, ◌+◌, ◌*◌, ◌^◌, ◌<◌, ◌≤◌, ◌==◌, List, [], ◌∷◌, length, get_or, Option, Some, None, true, false, ◌⊎◌, inl, inr, refl, sym, ap, subst, ◌∙◌, arith, vec_len, vec_capacity}
+use Rattle.std.proofs.Common.{◌≡◌, ◌≢◌, ℕ, zero, suc, ◌+◌, ◌*◌, ◌^◌, ◌<◌, ◌≤◌, ◌==◌, min, List, [], ◌∷◌, length, get_or, Option, Some, None, true, false, ◌⊎◌, inl, inr, refl, sym, ap, subst, ◌∙◌, arith, vec_len, vec_capacity}
 use Rattle.std.specs.List.{AllPairs, slice_get}
 use Rattle.std.proofs.lemmas.Bool.{cases_lt}
 use Rattle.std.proofs.lemmas.Bool.Decides.{nat_tests}
@@ -11,7 +11,6 @@ use Rattle.gpu_block_gaps.specs.declared.forest.Forest.{Forest}
 use Rattle.gpu_block_gaps.specs.Forest.{IsForest, IsWide, KeepsTrees, class_in}
 use Rattle.gpu_block_gaps.specs.Order.{IsIn, AreInOrder, IsPlaceIn}
 use Rattle.gpu_block_gaps.proofs.Ordered.{trees_rekeyed, order_kept}
-use Rattle.gpu_cost.specs.Cost.{digits}
 use Rattle.gpu_block_gaps.specs.declared.index.Gap.{Gap}
 use Rattle.gpu_block_gaps.specs.declared.order.Nearby.{Nearby}
 use Rattle.gpu_block_gaps.specs.declared.order.Nearby.TheVariants.{Nothing, Same, Apart}
@@ -23,13 +22,6 @@ use Rattle.gpu_block_gaps.proofs.Indexing.{near_in}
 
 other_slot : (a b : ℕ) → a ≢ b → (a == b) ≡ false
 other_slot a b other = grind (arith, nat_tests)
-
--- ---- numbers of digits
-
-pub one_digit : (n : ℕ) → 0 < n → 1 ≤ digits n
-unfolding digits
-one_digit zero some = absurd (omega arith)
-one_digit (suc n) some = let e = other_slot (suc n) 0 (λ is. omega arith) in rw e (omega arith)
 
 before_by_code : (a b : Gap) → IsShort a → IsShort b → code a < code b → Before a b
 before_by_code a b short_a short_b less = by_length (cases_lt a.length b.length)
@@ -117,10 +109,10 @@ module _ (t : Threaded) (f : Forest) (trees : List (Option Tree)) (are : AreInde
         omega arith
 
   -- the key that is compared is a gap's
-  pub few_keys : (n : ℕ) (near_by : Nearby) → IsNearby (key_in t.gaps) f.scale trees n near_by → keys_beside near_by ≤ digits (length (gaps_of t))
+  pub few_keys : (n : ℕ) (near_by : Nearby) → IsNearby (key_in t.gaps) f.scale trees n near_by → keys_beside near_by ≤ min 1 (length (gaps_of t))
   few_keys n Nothing at = omega arith
-  few_keys n (Same slot) at = one_digit (length (gaps_of t)) (let is = near_in t f trees are n (class_in f.scale n) at.0 at.1 in let a = is.1 in let b = length-map t.order (gap_in t.gaps) in omega arith)
-  few_keys n (Apart bit slot) at = one_digit (length (gaps_of t)) (let is = near_in t f trees are n (class_in f.scale n) at.0 at.1 in let a = is.1 in let b = length-map t.order (gap_in t.gaps) in omega arith)
+  few_keys n (Same slot) at = (let is = near_in t f trees are n (class_in f.scale n) at.0 at.1 in let a = is.1 in let b = length-map t.order (gap_in t.gaps) in omega arith)
+  few_keys n (Apart bit slot) at = (let is = near_in t f trees are n (class_in f.scale n) at.0 at.1 in let a = is.1 in let b = length-map t.order (gap_in t.gaps) in omega arith)
 
   -- ---- the longest gap, in the last slot
 

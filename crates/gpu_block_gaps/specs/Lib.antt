@@ -8,6 +8,7 @@ pub mod Forest
 pub mod Order
 pub mod Index
 pub mod Scan
+pub mod Last
 pub mod Thread
 pub mod Records
 pub mod Ordered

@@ -1,49 +1,18 @@
 //! The gaps of a block in the order of length and start.
-ghost use Rattle.std.specs.Prelude.{◌≡◌, ℕ, ◌+◌, ◌^◌, ◌<◌, ◌≤◌, List, [], length, slice_index_or, OnOk, OnErr, IfOk, IsOk};
+ghost use Rattle.std.specs.Prelude.{◌≡◌, ℕ, ◌<◌, ◌≤◌, List, [], length, slice_index_or, Some, OnOk, OnErr, IsOk, IsTrue, ◌↔◌};
 ghost use Rattle.std.specs.List.{AllPairs};
-ghost use Rattle.gpu_cost.specs.Cost.{Compares, Tests};
+ghost use Rattle.gpu_cost.specs.Cost.{Compares, ComparesKeys, Tests};
 ghost use Rattle.gpu_block_gaps.specs.Index.{Before, HasNoKey, HasKeyAt, IsInserted, IsRemoved, IsReplaced, HasLength};
-ghost use Rattle.gpu_block_gaps.specs.Ordered.{gaps_of};
+ghost use Rattle.gpu_block_gaps.specs.Last.{gap_if, IsLast, StaysLast, last_count, is_last_long};
 
-use crate::class::Scale;
-use crate::forest::Forest;
-use crate::key::Key;
-use crate::order::{compare_near, exchange, key_of, next_from, put, take};
+use crate::classed::{ClassedGaps, is_before};
+use crate::packed_record::PackedRecord;
 use crate::scan::Scan;
-use crate::thread::Thread;
+use crate::thread::Record;
 use gpu_cost::Cost;
 use gpu_values::AllocationType;
 use std::alloc::{AllocError, Global};
 use std::marker::Model;
-
-/// How many binary digits of a length its class tells, behind the first, where there is room for few gaps.
-const FEW_DIGITS: u32 = 4;
-
-/// For how many gaps there is room at most: a slot has a number of 30 bits, and slot 0 has no gap.
-const MOST_GAPS: usize = (1 << 30) - 2;
-
-/// For how many gaps more there is room at least, once it grows.
-const LEAST_GROWTH: usize = 4;
-
-/// For how many gaps there is room after it grew. Records are long, so that it grows by a sixteenth, and not to the double.
-fn grown(room: usize) -> usize
-    ensures { result + 1 < 2 ^ 30 }
-{
-    MOST_GAPS.min(room.saturating_add(LEAST_GROWTH.max(room / 16)))
-}
-
-/// How many digits serve that many gaps. Each digit more halves the gaps of a class, and doubles the table of the classes.
-fn digits_for(count: usize) -> u32
-    ensures { result < 24 }
-{
-    if count < 64 {
-        FEW_DIGITS
-    } else if count < 512 {
-        8
-    } else {
-        10
-    }
-}
 
 /// A gap of a block, with what a test of it reads: the kinds of the pieces beside it, `Free` at an end of the block.
 #[derive(Clone, Copy)]
@@ -58,44 +27,79 @@ pub struct Gap {
 /// The gaps of a block, of which the first that is long enough is found by its class and the bits of its length.
 #[derive(Drop)]
 pub struct GapIndex {
-    thread: Thread,
-    forest: Forest,
-    // Lengths up to it fall into classes; longer ones share the last.
-    longest: u64,
+    classed: ClassedGaps,
+    // A gap that is in no class, behind all that are in one: so nothing is looked for where pieces are taken one after another from what
+    // is left of a block.
+    last: Option<PackedRecord>,
 }
 
 impl Model for GapIndex {
-    ghost use Rattle.std.specs.Prelude.{◌-◌, length};
     ghost use Rattle.gpu_block_gaps.specs.Index.{Index};
-    ghost use Rattle.gpu_block_gaps.specs.Class.{EndsAt};
-    ghost use Rattle.gpu_block_gaps.specs.Ordered.{gaps_of, IsIndexed};
+    ghost use Rattle.gpu_block_gaps.specs.Last.{gap_if, with_last, IsBehind};
 
     ghost Value = { Index };
 
     ghost view = { λ s. record {
-      gaps = gaps_of s.thread;
-      room = length s.thread.gaps - 1;
-      longest = s.longest;
+      gaps = with_last s.classed.gaps (gap_if s.last);
+      room = s.classed.room;
+      longest = s.classed.longest;
     } };
 
-    ghost invariant = { λ s. IsIndexed s.thread s.forest × EndsAt s.forest.scale s.longest };
+    ghost invariant = { λ s. IsBehind s.classed.gaps s.classed.room (gap_if s.last) };
 }
 
-/// Puts the gaps of a thread into an index that has none. There is room for them.
-fn put_all(from: &Thread, index: &mut GapIndex)
-    requires ordered { AllPairs Before (gaps_of from.now) }
-    requires empty { index.old.gaps ≡ [] }
-    requires room { length (gaps_of from.now) ≤ index.old.room }
-    ensures gaps { index.new.gaps ≡ gaps_of from.now }
-    ensures room { index.new.room ≡ index.old.room }
-    ensures longest { index.new.longest ≡ index.old.longest }
+/// A gap as the last one.
+fn last_of(gap: Gap) -> Option<PackedRecord>
+    ensures { gap_if result ≡ Some gap }
 {
-    from.sound();
-    let mut slot = from.next(0);
-    while slot != 0 {
-        index.insert(from.gap(slot));
-        index.in_order();
-        slot = from.next(slot);
+    Some(PackedRecord::new(Record {
+        gap,
+        prev: 0,
+        next: 0,
+    }))
+}
+
+/// The gap of a record, if there is one.
+fn gap_if(record: &Option<PackedRecord>) -> Option<Gap>
+    ensures { result ≡ gap_if record.now }
+{
+    match record {
+        Some(record) => Some(record.gap()),
+        None => None,
+    }
+}
+
+/// Whether the last gap has that length and start.
+fn is_last(last: &Option<PackedRecord>, size: u64, start: u64) -> bool
+    ensures { IsTrue result ↔ IsLast (gap_if last.now) size start }
+{
+    match gap_if(last) {
+        Some(gap) => gap.length == size && gap.start == start,
+        None => false,
+    }
+}
+
+/// Whether a gap stays the last one where another comes in the place of that length and start.
+fn stays_last(last: &Option<PackedRecord>, size: u64, start: u64, other: Gap) -> bool
+    ensures { IsTrue result ↔ StaysLast (gap_if last.now) size start other }
+{
+    match gap_if(last) {
+        Some(gap) => (gap.length != size || gap.start != start) && is_before(other, gap),
+        None => false,
+    }
+}
+
+/// Whether the last gap is long enough for a search. It counts as a comparison, if there is one.
+fn is_last_long(last: &Option<PackedRecord>, size: u64, cost: &mut Cost) -> bool
+    ensures long { result ≡ is_last_long (gap_if last.now) size }
+    ensures counted { ComparesKeys (last_count (gap_if last.now)) cost.old cost.new }
+{
+    match gap_if(last) {
+        Some(gap) => {
+            cost.compare();
+            size <= gap.length
+        }
+        None => false,
     }
 }
 
@@ -106,19 +110,9 @@ impl GapIndex {
         ensures room { result.room ≡ 0 }
         ensures longest { result.longest ≡ longest }
     {
-        GapIndex::with_digits(alloc, longest, FEW_DIGITS)
-    }
-
-    fn with_digits(alloc: Global, longest: u64, digits: u32) -> GapIndex
-        requires { digits < 24 }
-        ensures gaps { result.gaps ≡ [] }
-        ensures room { result.room ≡ 0 }
-        ensures longest { result.longest ≡ longest }
-    {
         GapIndex {
-            thread: Thread::new(alloc),
-            forest: Forest::new(alloc, Scale::up_to(longest, digits)),
-            longest,
+            classed: ClassedGaps::new(alloc, longest),
+            last: None,
         }
     }
 
@@ -126,7 +120,7 @@ impl GapIndex {
     pub fn in_order(&self)
         ensures { AllPairs Before self.now.gaps }
     {
-        let _ = self.thread.room();
+        self.classed.in_order();
     }
 
     /// The length of the longest gap, which is the last one; 0 where there is none. It counts as a test.
@@ -136,13 +130,11 @@ impl GapIndex {
         ensures reached { 0 < result → HasLength self.now.gaps result }
         ensures counted { Tests 1 cost.old cost.new }
     {
-        self.thread.sound();
-        cost.test();
-        let last = self.thread.prev(0);
-        if last == 0 {
-            return 0;
+        let longest = self.classed.longest(cost);
+        match gap_if(&self.last) {
+            Some(gap) => gap.length,
+            None => longest,
         }
-        self.thread.gap(last).length
     }
 
     /// Makes room for that many gaps in all, at most 1,073,741,822. A refusal changes nothing.
@@ -155,61 +147,7 @@ impl GapIndex {
         ensures longest { self.new.longest ≡ self.old.longest }
         ensures refused { OnErr result (self.new ≡ self.old) }
     {
-        if count <= self.thread.room() {
-            return Ok(());
-        }
-        self.grow_to(count)
-    }
-
-    /// The same where there is no room for that many yet. Out of line: few calls come here.
-    #[cold]
-    #[inline(never)]
-    fn grow_to(&mut self, count: usize) -> Result<(), AllocError>
-        requires more { self.old.room < count }
-        ensures same { self.new.gaps ≡ self.old.gaps }
-        ensures room { OnOk result (count ≤ self.new.room) }
-        ensures kept { self.old.room ≤ self.new.room }
-        ensures longest { self.new.longest ≡ self.old.longest }
-        ensures refused { OnErr result (self.new ≡ self.old) }
-    {
-        if count > MOST_GAPS {
-            return Err(AllocError);
-        }
-        let wanted = count.max(grown(self.thread.room()));
-        if digits_for(wanted) == self.forest.scale.digits {
-            return self.widen(wanted);
-        }
-        *self = self.made_anew(wanted)?;
-        Ok(())
-    }
-
-    /// Makes room for that many gaps in all, with the same classes. A refusal changes nothing.
-    fn widen(&mut self, count: usize) -> Result<(), AllocError>
-        requires few { count + 1 < 2 ^ 30 }
-        ensures same { self.new.gaps ≡ self.old.gaps }
-        ensures room { OnOk result (count ≤ self.new.room) }
-        ensures kept { self.old.room ≤ self.new.room }
-        ensures longest { self.new.longest ≡ self.old.longest }
-        ensures refused { OnErr result (self.new ≡ self.old) }
-    {
-        self.forest.reserve_to(count)?;
-        self.thread.reserve_to(count)
-    }
-
-    /// The same gaps, with classes for that many, and with room for them.
-    fn made_anew(&self, count: usize) -> Result<GapIndex, AllocError>
-        requires few { count + 1 < 2 ^ 30 }
-        requires enough { self.now.room ≤ count }
-        ensures same { IfOk result (λ i. i.gaps ≡ self.now.gaps) }
-        ensures room { IfOk result (λ i. count ≤ i.room) }
-        ensures longest { IfOk result (λ i. i.longest ≡ self.now.longest) }
-    {
-        self.thread.sound();
-        let alloc = *self.forest.forks.allocator();
-        let mut anew = GapIndex::with_digits(alloc, self.longest, digits_for(count));
-        anew.widen(count)?;
-        put_all(&self.thread, &mut anew);
-        Ok(anew)
+        self.classed.reserve_to(count)
     }
 
     /// The gaps from the first of at least that length on, to be tested one after another.
@@ -223,16 +161,9 @@ impl GapIndex {
         ensures ordered { AllPairs Before self.now.gaps }
         ensures counted { Compares (length self.now.gaps) cost.old cost.new }
     {
-        let key = Key {
-            length: size,
-            start: 0,
-        };
-        let class = self.forest.class(key);
-        let near = compare_near(&self.thread, &self.forest, key, class, cost);
-        Scan::new(
-            &self.thread,
-            next_from(&self.thread, &self.forest, key, class, near),
-        )
+        let from = self.classed.first_at_least(size, cost);
+        let pending = is_last_long(&self.last, size, cost);
+        Scan::new(from, &self.last, pending)
     }
 
     /// Puts a gap in its place. There is room for it, so no memory is taken.
@@ -243,8 +174,22 @@ impl GapIndex {
         ensures room { self.new.room ≡ self.old.room }
         ensures longest { self.new.longest ≡ self.old.longest }
     {
-        let class = self.forest.class(key_of(&gap));
-        put(&mut self.thread, &mut self.forest, gap, class);
+        self.classed.in_order();
+        let Some(last) = gap_if(&self.last) else {
+            if self.classed.are_before(gap) {
+                self.last = last_of(gap);
+            } else {
+                self.classed.insert(gap);
+            }
+            return;
+        };
+        if is_before(gap, last) {
+            self.classed.insert(gap);
+            return;
+        }
+        self.classed.insert(last);
+        self.classed.in_order();
+        self.last = last_of(gap);
     }
 
     /// Takes the gap of that length and start away.
@@ -255,12 +200,12 @@ impl GapIndex {
         ensures room { self.new.room ≡ self.old.room }
         ensures longest { self.new.longest ≡ self.old.longest }
     {
-        let key = Key {
-            length: size,
-            start,
-        };
-        let class = self.forest.class(key);
-        take(&mut self.thread, &mut self.forest, key, class);
+        self.classed.in_order();
+        if is_last(&self.last, size, start) {
+            self.last = None;
+            return;
+        }
+        self.classed.remove(size, start);
     }
 
     /// Puts a gap in its place, and the one of that length and start away. It takes no memory.
@@ -273,6 +218,12 @@ impl GapIndex {
         ensures room { self.new.room ≡ self.old.room }
         ensures longest { self.new.longest ≡ self.old.longest }
     {
-        exchange(&mut self.thread, &mut self.forest, size, start, gap);
+        self.classed.in_order();
+        if stays_last(&self.last, size, start, gap) {
+            self.classed.replace(size, start, gap);
+            return;
+        }
+        self.remove(size, start);
+        self.insert(gap);
     }
 }

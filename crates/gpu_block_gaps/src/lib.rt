@@ -3,6 +3,7 @@
 
 mod class;
 mod class_set;
+mod classed;
 mod forest;
 mod index;
 mod key;
@@ -13,6 +14,7 @@ mod root;
 mod scan;
 mod tagged_slot;
 mod thread;
+mod thread_place;
 mod tree;
 
 pub use index::{Gap, GapIndex};

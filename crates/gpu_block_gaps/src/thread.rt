@@ -173,7 +173,7 @@ impl Thread {
     pub fn sound(&self)
         ensures inside { (slot : ℕ) → IsIn slot self.now.order
             → (0 < slot) × (slot < length self.now.gaps) }
-        ensures few { (length self.now.gaps < 2 ^ 31)
+        ensures few { (length self.now.gaps < 2 ^ 30)
             × (length self.now.order ≤ length self.now.gaps - 1) }
         ensures distinct { AllPairs (λ a b. a ≢ b) self.now.order }
     {
@@ -193,6 +193,17 @@ impl Thread {
         ensures { result ≡ gap_in self.now.gaps slot }
     {
         self.records[slot as usize].gap()
+    }
+
+    /// The record in a slot: its gap, and the slot behind it, 0 at the end.
+    #[inline(always)]
+    pub fn record(&self, slot: u32) -> &PackedRecord
+        requires { IsIn slot self.now.order }
+        ensures gap { result.now.gap ≡ gap_in self.now.gaps slot }
+        ensures next { (k : ℕ) → k < length self.now.order → slot ≡ slice_index self.now.order k
+            → result.now.next ≡ slice_index self.now.order (k + 1) }
+    {
+        &self.records[slot as usize]
     }
 
     /// The slot behind one, 0 at the end; at 0 the first one.

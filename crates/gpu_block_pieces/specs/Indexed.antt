@@ -86,6 +86,16 @@ pub record IsFirstFit (gs : List Gap) (w : Wanted) (f : Found) (place : ℕ) : T
   pub fits : FitsGap w f.gap f.offset
   pub earlier : (k o : ℕ) (d : Gap) → k < place → FitsGap w (slice_index_or gs k d) o → ⊥
 
+-- the gap at that place is the found one
+pub record IsFoundAt (gs : List Gap) (w : Wanted) (place : ℕ) (f : Found) : Type 0 where
+  pub within : place < length gs
+  pub is : (d : Gap) → slice_index_or gs place d ≡ f.gap
+  pub fits : FitsGap w f.gap f.offset
+
+-- the request doesn't fit in the gap at that place, if there is one
+abbrev pub NoneFitsAt : List Gap → Wanted → ℕ → Type 0
+NoneFitsAt gs w place = (o : ℕ) (d : Gap) → place < length gs → FitsGap w (slice_index_or gs place d) o → ⊥
+
 abbrev pub is_long : ℕ → Gap → Bool
 is_long n g = nat_le n g.length
 

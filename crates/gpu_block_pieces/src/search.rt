@@ -6,10 +6,10 @@ ghost use Rattle.std.specs.Int.{is_power_of_two};
 ghost use Rattle.std.specs.List.{AllPairs, count_by};
 ghost use Rattle.gpu_cost.specs.Cost.{digits};
 ghost use Rattle.gpu_block_gaps.specs.Index.{Before};
-ghost use Rattle.gpu_block_pieces.specs.Indexed.{FitsGap, NoGapFits, IsFirstFit, IsPlaced, ArePlaced, is_long};
+ghost use Rattle.gpu_block_pieces.specs.Indexed.{FitsGap, NoGapFits, IsFirstFit, NoneFitsAt, IsFoundAt, IsPlaced, ArePlaced, is_long};
 
 use crate::place::{Wanted, place_between};
-use gpu_block_gaps::{Gap, GapIndex};
+use gpu_block_gaps::{Gap, GapIndex, Scan};
 use gpu_cost::Cost;
 
 /// A gap that serves, and the piece's offset in it.
@@ -31,6 +31,25 @@ fn place_in(gap: Gap, wanted: &Wanted) -> Option<u64>
     place_between(gap.start, gap.length, gap.before, gap.after, wanted)
 }
 
+/// The one gap that may be left, if the request fits there.
+fn find_last(scan: &mut Scan<'_>, wanted: &Wanted, cost: &mut Cost) -> Option<Found>
+    requires left { length scan.old.gaps ≤ scan.old.place + 1 }
+    requires placed { ArePlaced scan.old.gaps }
+    requires sized { 0 < wanted.now.size }
+    requires aligned { IsTrue (is_power_of_two wanted.now.alignment) }
+    requires paged { IsTrue (is_power_of_two wanted.now.granularity) }
+    ensures found { MatchOption result
+        (NoneFitsAt scan.old.gaps wanted.now scan.old.place)
+        (IsFoundAt scan.old.gaps wanted.now scan.old.place) }
+    ensures tests { cost.new.tests ≡ cost.old.tests + (length scan.old.gaps - scan.old.place) }
+    ensures others { (cost.new.comparisons ≡ cost.old.comparisons)
+        × (cost.new.lookups ≡ cost.old.lookups) }
+{
+    let gap = scan.next(cost)?;
+    let offset = place_in(gap, wanted)?;
+    Some(Found { gap, offset })
+}
+
 /// The best fit: the first gap of the index, which is in order of length and then of start, in which the request fits.
 pub fn find(index: &GapIndex, wanted: &Wanted, cost: &mut Cost) -> Option<Found>
     requires placed { ArePlaced index.now.gaps }
@@ -48,10 +67,10 @@ pub fn find(index: &GapIndex, wanted: &Wanted, cost: &mut Cost) -> Option<Found>
     ensures lookups { cost.new.lookups ≡ cost.old.lookups }
 {
     let mut scan = index.first_at_least(wanted.size, cost);
-    while let Some(gap) = scan.next(cost) {
+    while let Some(gap) = scan.next_in_class(cost) {
         if let Some(offset) = place_in(gap, wanted) {
             return Some(Found { gap, offset });
         }
     }
-    None
+    find_last(&mut scan, wanted, cost)
 }

@@ -12,6 +12,7 @@ use Rattle.std_alloc.specs.contracts.vec.Vec as Vec
 use Rattle.std_heap.specs.contracts.Global as Heap
 use Rattle.std_heap.specs.contracts.GlobalAllocator.TheImpl.{ghosts}
 use Rattle.gpu_block_gaps.specs.contracts.class_set.ClassSet as ClassSet
+use Rattle.gpu_block_gaps.specs.contracts.classed.ClassedGaps as ClassedGaps
 use Rattle.gpu_block_gaps.specs.contracts.forest.Forest as Forest
 use Rattle.gpu_block_gaps.specs.contracts.tree.Fork as Fork
 use Rattle.gpu_block_gaps.specs.contracts.tree.Node as Node
@@ -103,8 +104,14 @@ root_send = let n = node_send in search sendable depth 20
 forest_send : IsSend (Forest.the_field).row
 forest_send = let f = fork_send in let r = root_send in let c = classes_send in search (sendable, Vec-send) depth 20
 
+classed_send : IsSend ClassedGaps.the_row
+classed_send = let t = thread_send in let f = forest_send in search sendable depth 20
+
+last_send : IsSend (Option.the_field PackedRecord.the_row).row
+last_send = let r = record_send in search sendable depth 20
+
 index_send : IsSend GapIndex.the_row
-index_send = let t = thread_send in let f = forest_send in search sendable depth 20
+index_send = let c = classed_send in let l = last_send in search sendable depth 20
 
 link_send : IsSend SlotLink.the_row
 link_send = search sendable depth 20

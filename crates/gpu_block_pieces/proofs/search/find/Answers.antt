@@ -1,8 +1,9 @@
-use Rattle.std.proofs.Common.{◌≡◌, ◌∙◌, ◌+◌, List, get_or, sym, ap, arith, slice_get}
-use Rattle.std.proofs.lemmas.List.{take_all}
+use Rattle.std.proofs.Common.{◌≡◌, ◌≤◌, ◌∙◌, ◌+◌, List, length, get_or, sym, ap, subst, arith, slice_get}
+use Rattle.std.specs.Option.{MatchOption}
 use Rattle.std.proofs.lemmas.Option.{slice_get_within, get_or_from_slice_get}
 use Rattle.gpu_block_gaps.specs.declared.index.Gap.{Gap}
-use Rattle.gpu_block_pieces.proofs.Searches.{past_end, counts_long, counts_short, short_fails, one_more_past}
+use Rattle.gpu_block_pieces.proofs.Searches.{ends, counts_long, counts_short, short_fails, one_more_past}
+use Rattle.gpu_block_pieces.specs.Indexed.{NoneFitsAt, IsFoundAt}
 use Rattle.gpu_block_pieces.proofs.search.find.Goals as goal
 
 pub loop-gap-init : goal.loop-gap-init
@@ -26,8 +27,8 @@ loop-gap-preserved c =
     let i = c.loop-gap.invariant in
     let at = c.in-Some.ensures.gap ∙ ap (λ (gs : List Gap). slice_get gs c.loop-gap.scan.place) i.same in
     let n = counts_long c.args.index.now.gaps c.args.wanted.now.size c.loop-gap.scan.place c.in-Some.gap at i.from in
-    let t : c.next.new.cost.tests ≡ c.loop-gap.cost.tests + 1 = c.in-Some.ensures.counted in
-    let p : c.next.new.self.place ≡ c.loop-gap.scan.place + 1 = c.in-Some.ensures.place in
+    let t : c.next_in_class.new.cost.tests ≡ c.loop-gap.cost.tests + 1 = c.in-Some.ensures.counted in
+    let p : c.next_in_class.new.self.place ≡ c.loop-gap.scan.place + 1 = c.in-Some.ensures.place in
     let w = slice_get_within c.args.index.now.gaps c.loop-gap.scan.place c.in-Some.gap (sym at) in
     let o = c.in-Some.ensures.others in
     record {
@@ -44,7 +45,7 @@ loop-gap-preserved c =
 pub loop-gap-smaller : goal.loop-gap-smaller
 loop-gap-smaller c =
     let at = c.in-Some.ensures.gap ∙ ap (λ (gs : List Gap). slice_get gs c.loop-gap.scan.place) c.loop-gap.invariant.same in
-    let p : c.next.new.self.place ≡ c.loop-gap.scan.place + 1 = c.in-Some.ensures.place in
+    let p : c.next_in_class.new.self.place ≡ c.loop-gap.scan.place + 1 = c.in-Some.ensures.place in
     let w = slice_get_within c.args.index.now.gaps c.loop-gap.scan.place c.in-Some.gap (sym at) in omega arith
 
 pub returns-in-Some-place_in-clause-found : goal.returns-in-Some-place_in-clause-found
@@ -52,7 +53,7 @@ returns-in-Some-place_in-clause-found c =
     let i = c.loop-gap.invariant in
     let at = c.in-Some.ensures.gap ∙ ap (λ (gs : List Gap). slice_get gs c.loop-gap.scan.place) i.same in
     let n = counts_long c.args.index.now.gaps c.args.wanted.now.size c.loop-gap.scan.place c.in-Some.gap at i.from in
-    let t : c.next.new.cost.tests ≡ c.loop-gap.cost.tests + 1 = c.in-Some.ensures.counted in (
+    let t : c.next_in_class.new.cost.tests ≡ c.loop-gap.cost.tests + 1 = c.in-Some.ensures.counted in (
       c.loop-gap.scan.place,
       record {
         within = slice_get_within c.args.index.now.gaps c.loop-gap.scan.place c.in-Some.gap (sym at);
@@ -63,13 +64,25 @@ returns-in-Some-place_in-clause-found c =
       omega (arith, i.tests),
     )
 
+pub find_last-requires-clause-left : goal.find_last-requires-clause-left
+find_last-requires-clause-left c =
+    let few : length c.loop-gap.scan.gaps ≤ c.loop-gap.scan.place + 1 = c.in_default.ensures.gap in
+    let same = ap (λ (gs : List Gap). length gs) c.in_default.ensures.gaps in
+    let p : c.next_in_class.new.self.place ≡ c.loop-gap.scan.place + 0 = c.in_default.ensures.place in
+    omega arith
+
 pub returns-clause-found : goal.returns-clause-found
 returns-clause-found c =
     let i = c.loop-gap.invariant in
-    let at = c.in_default.ensures.gap ∙ ap (λ (gs : List Gap). slice_get gs c.loop-gap.scan.place) i.same in
-    let p = past_end c.args.index.now.gaps c.loop-gap.scan.place at in
-    let t : c.next.new.cost.tests ≡ c.loop-gap.cost.tests + 0 = c.in_default.ensures.counted in
-    let all = take_all c.loop-gap.scan.place c.args.index.now.gaps p in (
-      λ k o d lt. i.past k o d (omega arith),
-      t ∙ omega (arith, rw all at (i.tests)),
-    )
+    let gs = c.args.index.now.gaps in
+    let w = c.args.wanted.now in
+    let few : length c.loop-gap.scan.gaps ≤ c.loop-gap.scan.place + 1 = c.in_default.ensures.gap in
+    let long = ap (λ (xs : List Gap). length xs) i.same in
+    let same = c.in_default.ensures.gaps ∙ i.same in
+    let here : c.next_in_class.new.self.place ≡ c.loop-gap.scan.place = (let p : c.next_in_class.new.self.place ≡ c.loop-gap.scan.place + 0 = c.in_default.ensures.place in omega arith) in
+    let t : c.next_in_class.new.cost.tests ≡ c.loop-gap.cost.tests + 0 = c.in_default.ensures.counted in
+    let rest = c.find_last.ensures.tests in
+    let as_long = ap (λ (xs : List Gap). length xs) same in
+    ends gs w c.loop-gap.scan.place i.within (omega arith) i.past i.from c.find_last.result c.args.cost.now.tests c.next_in_class.new.cost.tests c.find_last.new.cost.tests (omega (arith, i.tests)) (omega arith)
+    (subst (λ p. MatchOption c.find_last.result (NoneFitsAt gs w p) (IsFoundAt gs w p)) here
+    (subst (λ (xs : List Gap). MatchOption c.find_last.result (NoneFitsAt xs w c.next_in_class.new.self.place) (IsFoundAt xs w c.next_in_class.new.self.place)) same c.find_last.ensures.found))

@@ -1,7 +1,7 @@
 use Rattle.std.proofs.Common.{◌≡◌, ◌<◌, ◌≤◌, List, ℕ, length, map, set, get_or, ap, sym, subst, ◌∙◌, vec_capacity, arith}
 use Rattle.std.specs.List.{insert}
 use Rattle.std.specs.Vec.{with_items}
-use Rattle.std.proofs.lemmas.List.{length-map, with_items_is}
+use Rattle.std.proofs.lemmas.List.{with_items_is}
 use Rattle.gpu_block_gaps.specs.declared.index.Gap.{Gap}
 use Rattle.gpu_block_gaps.specs.declared.thread.Record.{Record}
 use Rattle.gpu_block_gaps.specs.Thread.{Threaded}
