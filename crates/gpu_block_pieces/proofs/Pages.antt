@@ -124,6 +124,15 @@ pub offset_within : (g a last : ℕ) (Other : Type 0) (s first : ℕ) (r : Optio
 offset_within g a last Other s first None pos f h = none_within g a last Other s first pos f h
 offset_within g a last Other s first (Some v) pos f h = (offset_some g a Other s first v pos f h.1, rw h.1 h.0)
 
+-- nor where no multiple of the alignment lies up to it
+pub none_aligned : (g a last : ℕ) (Other : Type 0) (s : ℕ) → 0 < a → (next_multiple_of s a ≤ last → ⊥) → (o : ℕ) → MayBegin g a Other s o → last < o
+none_aligned g a last Other s pos refused o m =
+    let l = (next_up s a pos).least o m.after m.aligned in
+    elim (cases_lt last (next_multiple_of s a)) [
+      | inl lt ↦ omega arith
+      | inr le ↦ absurd (refused le)
+    ]
+
 pub no_first_within : (g a last : ℕ) (Other : Type 0) (s : ℕ) → 0 < g → 0 < s → Other → (next_multiple_of s g ≤ last → ⊥) → (o : ℕ) → MayBegin g a Other s o → last < o
 no_first_within g a last Other s pos behind other refused o m =
     let l = (first_next g Other s pos behind other).low o m.after m.apart in

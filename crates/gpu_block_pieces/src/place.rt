@@ -52,23 +52,29 @@ fn round_up(place: u64, last: u64, step: u64) -> Option<u64>
     Some(place + over)
 }
 
-/// The least place for a piece from `start` on, if it isn't behind `last`.
-fn offset_from(start: u64, last: u64, alignment: u64, granularity: u64, other: bool) -> Option<u64>
+/// The least place for a piece from `start` on behind a piece of that kind, if it isn't behind `last`.
+fn offset_from(start: u64, last: u64, left: AllocationType, wanted: &Wanted) -> Option<u64>
     requires order { start ≤ last }
-    requires aligned { IsTrue (is_power_of_two alignment) }
-    requires paged { IsTrue (is_power_of_two granularity) }
-    requires behind { IsTrue other → 0 < start }
+    requires aligned { IsTrue (is_power_of_two wanted.now.alignment) }
+    requires paged { IsTrue (is_power_of_two wanted.now.granularity) }
+    requires behind { Differ left wanted.now.kind → 0 < start }
     ensures { MatchOption result
-        ((o : ℕ) → MayBegin granularity alignment (IsTrue other) start o → last < o)
-        (λ o. IsOffsetIn granularity alignment (IsTrue other) start o × (o ≤ last)) }
+        ((o : ℕ) → MayBegin wanted.now.granularity wanted.now.alignment (Differ left wanted.now.kind) start o
+        → last < o)
+        (λ o. IsOffsetIn wanted.now.granularity wanted.now.alignment (Differ left wanted.now.kind) start o
+        × (o ≤ last)) }
 {
+    // Most gaps that don't fit end here, whatever lies before them.
+    let offset = round_up(start, last, wanted.alignment)?;
     // Where the gap begins with a page, nothing before it is on that one. A granularity of 1 ends here, whatever the kinds are.
-    let first = if remainder(start, granularity) != 0 && other {
-        round_up(start, last, granularity)?
-    } else {
-        start
-    };
-    round_up(first, last, alignment)
+    if remainder(start, wanted.granularity) == 0 {
+        return Some(offset);
+    }
+    if !differ(left, wanted.kind) {
+        return Some(offset);
+    }
+    let first = round_up(start, last, wanted.granularity)?;
+    round_up(first, last, wanted.alignment)
 }
 
 /// Whether two places lie on one page.
@@ -100,13 +106,7 @@ pub fn place_between(
         (Differ left wanted.now.kind) (Differ right wanted.now.kind) start (start + length) o) }
 {
     let spare = length.checked_sub(wanted.size)?;
-    let offset = offset_from(
-        start,
-        start + spare,
-        wanted.alignment,
-        wanted.granularity,
-        differ(left, wanted.kind),
-    )?;
+    let offset = offset_from(start, start + spare, left, wanted)?;
     let last = offset + (wanted.size - 1);
     if share_page(last, start + length, wanted.granularity) && differ(right, wanted.kind) {
         return None;
