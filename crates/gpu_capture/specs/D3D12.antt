@@ -1,7 +1,9 @@
 -- The words of a DirectX 12 trace.
-use Rattle.std.specs.Prelude.{ℕ, ◌+◌, ◌*◌, ◌/◌, ◌^◌, nat_lt, if◌then◌else◌, List, [], ◌∷◌, Bool, true, false, codes}
+use Rattle.std.specs.Prelude.{ℕ, ◌+◌, ◌*◌, ◌/◌, ◌^◌, nat_lt, if◌then◌else◌, List, [], ◌∷◌, codes}
 use Rattle.std.specs.Fmt.{decimal}
 use Rattle.gpu_values.specs.declared.memory_location.MemoryLocation.{MemoryLocation}
+use Rattle.gpu_device.specs.declared.d3d12.types.ResourceHeapTier.{ResourceHeapTier}
+use Rattle.gpu_device.specs.declared.d3d12.types.ResourceHeapTier.TheVariants.{Tier1, Tier2}
 use Rattle.gpu_capture.specs.declared.request.Category.{Category}
 use Rattle.gpu_capture.specs.declared.request.Category.TheVariants.{Buffer, Target, Texture}
 use Rattle.gpu_capture.specs.Words.{location_word}
@@ -16,12 +18,12 @@ abbrev pub d3d12_words : (size alignment : ℕ) → MemoryLocation → (category
 d3d12_words size alignment location category name =
     decimal size ∷ decimal alignment ∷ location_word location ∷ category ∷ name ∷ []
 
-abbrev pub tier_word : (is_tier_2 : Bool) → List ℕ
-tier_word true = codes "2"
-tier_word false = codes "1"
+abbrev pub tier_word : ResourceHeapTier → List ℕ
+tier_word Tier1 = codes "1"
+tier_word Tier2 = codes "2"
 
-abbrev pub tier_words : (is_tier_2 : Bool) → List (List ℕ)
-tier_words is_tier_2 = codes "tier" ∷ tier_word is_tier_2 ∷ []
+abbrev pub tier_words : ResourceHeapTier → List (List ℕ)
+tier_words tier = codes "tier" ∷ tier_word tier ∷ []
 
 -- a committed resource, as a buffer of so many bytes
 abbrev pub committed_words : (number : ℕ) → MemoryLocation → (category : List ℕ) → (size : ℕ) → (name : List ℕ) → List (List ℕ)

@@ -1,6 +1,7 @@
 -- The lines in front of `new`.
 use Rattle.std.specs.Prelude.{ℕ, List, [], ◌∷◌, ◌++◌, Bool, codes}
 use Rattle.std.specs.List.{flat_map}
+use Rattle.gpu_device.specs.declared.d3d12.types.ResourceHeapTier.{ResourceHeapTier}
 use Rattle.gpu_device.specs.declared.vulkan.types.MemoryTypeInfo.{MemoryTypeInfo}
 use Rattle.gpu_capture.specs.declared.device.BlockSizes.{BlockSizes}
 use Rattle.gpu_capture.specs.declared.device.VulkanDevice.{VulkanDevice}
@@ -23,8 +24,8 @@ type_line t = line_of (type_words t.property_flags.0 t.heap_index)
 abbrev pub vulkan_lines : VulkanDevice → BlockSizes → List ℕ
 vulkan_lines d sizes = flat_map heap_line d.heaps.now ++ (flat_map type_line d.types.now ++ (line_of (granularity_words d.granularity) ++ sizes_line sizes))
 
-abbrev pub d3d12_lines : (is_tier_2 : Bool) → BlockSizes → List ℕ
-d3d12_lines is_tier_2 sizes = line_of (codes "d3d12" ∷ []) ++ (line_of (tier_words is_tier_2) ++ sizes_line sizes)
+abbrev pub d3d12_lines : ResourceHeapTier → BlockSizes → List ℕ
+d3d12_lines tier sizes = line_of (codes "d3d12" ∷ []) ++ (line_of (tier_words tier) ++ sizes_line sizes)
 
 abbrev pub metal_lines : (has_set : Bool) → BlockSizes → List ℕ
 metal_lines has_set sizes = line_of (codes "metal" ∷ []) ++ (line_of (residency_words has_set) ++ sizes_line sizes)

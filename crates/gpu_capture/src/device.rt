@@ -3,11 +3,13 @@
 ghost use Rattle.std.specs.Prelude.{◌≡◌, ◌<◌, ◌^◌, ◌++◌, IfOk, OnOk, string_bytes, [], if◌then◌else◌};
 ghost use Rattle.std.specs.List.{flat_map};
 ghost use Rattle.gpu_capture.specs.Devices.{sizes_line, heap_line, type_line, vulkan_lines, d3d12_lines, metal_lines};
+ghost use Rattle.gpu_capture.specs.D3D12.{tier_word};
 ghost use Rattle.gpu_capture.specs.Line.{line_of};
 ghost use Rattle.gpu_capture.specs.Vulkan.{granularity_words};
 ghost use Rattle.gpu_capture.specs.Keeps.{Keeps, blank, ended, with_lines};
 
 use crate::capture::{Capture, CaptureEnd};
+use gpu_device::d3d12::ResourceHeapTier;
 use gpu_device::vulkan::MemoryTypeInfo;
 use std::alloc::{AllocError, Global};
 
@@ -90,11 +92,24 @@ fn vulkan_lines(
     Ok(lines)
 }
 
-fn d3d12_lines(alloc: Global, is_tier_2: bool, sizes: BlockSizes) -> Result<String, AllocError>
-    ensures { IfOk result (λ l. string_bytes l ≡ d3d12_lines is_tier_2 sizes) }
+fn tier_word(tier: ResourceHeapTier) -> &'static str
+    ensures { string_bytes result ≡ tier_word tier }
 {
-    let tier = if is_tier_2 { "2" } else { "1" };
-    let mut lines = format!(in alloc; "d3d12\ntier {tier}\n")?;
+    match tier {
+        ResourceHeapTier::Tier1 => "1",
+        ResourceHeapTier::Tier2 => "2",
+    }
+}
+
+fn d3d12_lines(
+    alloc: Global,
+    tier: ResourceHeapTier,
+    sizes: BlockSizes,
+) -> Result<String, AllocError>
+    ensures { IfOk result (λ l. string_bytes l ≡ d3d12_lines tier sizes) }
+{
+    let word = tier_word(tier);
+    let mut lines = format!(in alloc; "d3d12\ntier {word}\n")?;
     push_sizes(&mut lines, sizes)?;
     Ok(lines)
 }
@@ -139,10 +154,10 @@ impl Capture {
     }
 
     /// The capture of a DirectX 12 allocator that is made.
-    pub fn of_d3d12(alloc: Global, is_tier_2: bool, sizes: BlockSizes) -> Capture
-        ensures { Keeps blank (with_lines blank (d3d12_lines is_tier_2 sizes) [] 0) result }
+    pub fn of_d3d12(alloc: Global, tier: ResourceHeapTier, sizes: BlockSizes) -> Capture
+        ensures { Keeps blank (with_lines blank (d3d12_lines tier sizes) [] 0) result }
     {
-        match d3d12_lines(alloc, is_tier_2, sizes) {
+        match d3d12_lines(alloc, tier, sizes) {
             Ok(lines) => begin(alloc, lines.as_str(), 0),
             Err(_) => refused(alloc),
         }

@@ -5,6 +5,7 @@ use gpu_capture::{
     VulkanDevice, VulkanRequest,
 };
 use gpu_device::Refusal;
+use gpu_device::d3d12::ResourceHeapTier;
 use gpu_device::vulkan::{
     AllocationScheme, Buffer, Image, MemoryPropertyFlags, MemoryRequirements, MemoryTypeInfo,
 };
@@ -107,7 +108,7 @@ fn a_vulkan_trace_has_each_call(rt: HostRuntime) -> Result<(), Fail> {
 #[test]
 fn a_directx_12_trace_has_each_call(rt: HostRuntime) -> Result<(), Fail> {
     let alloc = rt.alloc();
-    let mut capture = Capture::of_d3d12(alloc, false, SIZES);
+    let mut capture = Capture::of_d3d12(alloc, ResourceHeapTier::Tier1, SIZES);
     let target = D3D12Request {
         size: 65537,
         alignment: 65536,

@@ -3,7 +3,7 @@ use Rattle.std.specs.Prelude.{◌≡◌, ℕ, ℤ, List, [], ◌∷◌, Option, 
 use Rattle.std.specs.Int.{w32}
 use Rattle.std.specs.Fmt.{signed_decimal}
 use Rattle.gpu_device.specs.declared.d3d12.types.ResourceHeapTier.{ResourceHeapTier}
-use Rattle.gpu_device.specs.declared.d3d12.types.ResourceHeapTier.TheVariants.{Tier1, Tier2}
+use Rattle.gpu_capture.specs.D3D12.{tier_word}
 use Rattle.gpu_trace_text.specs.Setting as settings
 use Rattle.gpu_trace_text.specs.Setting.{IsShared}
 use Rattle.gpu_trace_text.specs.declared.d3d12.setting.Setting.{Setting}
@@ -13,8 +13,7 @@ use Rattle.gpu_trace_text.specs.declared.d3d12.setting.Version.TheVariants.{Devi
 
 -- the heap tier, or the code with which the device can't tell it
 abbrev pub tier_words : Result ResourceHeapTier ℤ → List (List ℕ)
-tier_words (Ok Tier1) = codes "1" ∷ []
-tier_words (Ok Tier2) = codes "2" ∷ []
+tier_words (Ok tier) = tier_word tier ∷ []
 tier_words (Err code) = codes "refused" ∷ signed_decimal code ∷ []
 
 -- the word for an interface
