@@ -31,6 +31,9 @@ committed_words number location category size name =
     codes "create" ∷ decimal number ∷ codes "committed" ∷ location_word location ∷ category ∷ codes "buffer" ∷ decimal size
     ∷ codes "1" ∷ codes "1" ∷ codes "0" ∷ codes "state:0" ∷ codes "none" ∷ codes "none" ∷ name ∷ []
 
+abbrev pub release_words : (number : ℕ) → List (List ℕ)
+release_words number = codes "release" ∷ decimal number ∷ []
+
 -- a size in whole units of 65,536 bytes, where 64 bits hold that
 abbrev pub whole_units : (size : ℕ) → ℕ
 whole_units size = let whole = (size + 65535) / 65536 * 65536 in if nat_lt whole (2 ^ 64) then whole else size

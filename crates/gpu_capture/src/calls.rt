@@ -2,7 +2,8 @@
 
 ghost use Rattle.std.specs.Prelude.{◌≡◌, [], ◌∷◌, length, codes, IfOk, string_bytes};
 ghost use Rattle.gpu_capture.specs.Answers.{answer_lines};
-ghost use Rattle.gpu_capture.specs.Keeps.{Keeps, with_call, with_lines};
+ghost use Rattle.gpu_capture.specs.D3D12.{release_words};
+ghost use Rattle.gpu_capture.specs.Keeps.{Keeps, Stops, with_call, with_lines};
 ghost use Rattle.gpu_capture.specs.Line.{line_of, name_word};
 ghost use Rattle.gpu_capture.specs.Requests.{alloc_line, move_line, committed_line};
 ghost use Rattle.gpu_capture.specs.Words.{free_words, rename_words};
@@ -17,6 +18,12 @@ fn free_line(alloc: Global, number: u64) -> Result<String, AllocError>
     ensures { IfOk result (λ l. string_bytes l ≡ line_of (free_words number)) }
 {
     format!(in alloc; "free {number}\n")
+}
+
+fn release_line(alloc: Global, number: u64) -> Result<String, AllocError>
+    ensures { IfOk result (λ l. string_bytes l ≡ line_of (release_words number)) }
+{
+    format!(in alloc; "release {number}\n")
 }
 
 fn rename_line(alloc: Global, number: u64, name: &[u8]) -> Result<String, AllocError>
@@ -102,6 +109,16 @@ impl Capture {
         }
     }
 
+    /// A committed resource is released.
+    pub fn released(&mut self, alloc: Global, number: u64)
+        ensures { Keeps self.old (with_call self.old (line_of (release_words number))) self.new }
+    {
+        match release_line(alloc, number) {
+            Ok(line) => self.keep_call(line.as_str()),
+            Err(_) => self.stop(CaptureEnd::HostOutOfMemory),
+        }
+    }
+
     /// An allocation is renamed.
     pub fn renamed(&mut self, alloc: Global, number: u64, name: &[u8])
         ensures { Keeps self.old (with_call self.old
@@ -118,5 +135,12 @@ impl Capture {
         ensures { Keeps self.old (with_call self.old (line_of (codes "commit" ∷ []))) self.new }
     {
         self.keep_call("commit\n");
+    }
+
+    /// The host refused memory for what a call says: the capture ends before that call.
+    pub fn lacks_memory(&mut self)
+        ensures { Stops self.old CaptureEnd.HostOutOfMemory self.new }
+    {
+        self.stop(CaptureEnd::HostOutOfMemory);
     }
 }

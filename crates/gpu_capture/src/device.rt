@@ -93,7 +93,7 @@ fn vulkan_lines(
 }
 
 fn tier_word(tier: ResourceHeapTier) -> &'static str
-    ensures { string_bytes result ≡ tier_word tier }
+    ensures { result.now ≡ tier_word tier }
 {
     match tier {
         ResourceHeapTier::Tier1 => "1",

@@ -120,11 +120,12 @@ fn a_directx_12_trace_has_each_call(rt: HostRuntime) -> Result<(), Fail> {
     capture.allocated(alloc, 1, &Request::D3D12(target), &[Answer::Granted]);
     capture.committed(alloc, 2, &target, &[refused]);
     capture.moved(alloc, 1, 3, &Request::D3D12(target));
+    capture.released(alloc, 2);
     expect(
         &capture,
         false,
         "d3d12\ntier 1\nsizes 256 64 512 128\nrefuse 2 -2147024882\n",
-        "alloc 1 65537 65536 GpuOnly target t\ncreate 2 committed GpuOnly target buffer 131072 1 1 0 state:0 none none t\nmove 1 3 65537 65536 GpuOnly target t\n",
+        "alloc 1 65537 65536 GpuOnly target t\ncreate 2 committed GpuOnly target buffer 131072 1 1 0 state:0 none none t\nmove 1 3 65537 65536 GpuOnly target t\nrelease 2\n",
         "",
     )
 }

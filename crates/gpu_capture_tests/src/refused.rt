@@ -8,7 +8,7 @@ use std::test::Fail;
 /// What a run ends with in which one request was refused.
 const TOLD: &str = "one call was refused, and nothing was lost";
 
-const CALLS: &str = "budget 2 7\nalloc 1 2 4 Unknown a\nrename 1 b\nfree 1\n";
+const CALLS: &str = "budget 2 7\nalloc 1 2 4 Unknown a\nrename 1 b\nrelease 2\nfree 1\n";
 
 #[test]
 fn it_ends_before_the_call_that_lacked_memory(rt: HostRuntime) -> Result<(), Fail> {
@@ -29,6 +29,7 @@ fn it_ends_before_the_call_that_lacked_memory(rt: HostRuntime) -> Result<(), Fai
     capture.bounded(alloc, 2, Some(7));
     capture.allocated(alloc, 1, &request, &[Answer::Granted]);
     capture.renamed(alloc, 1, "b".as_bytes());
+    capture.released(alloc, 2);
     capture.freed(alloc, 1);
     let calls = capture.trace(false).calls;
     let whole = CALLS.as_bytes().starts_with(calls);

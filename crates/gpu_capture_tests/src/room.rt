@@ -29,3 +29,26 @@ fn it_ends_at_a_whole_line_where_a_trace_has_no_more_room(rt: HostRuntime) -> Re
     }
     Ok(())
 }
+
+#[test]
+fn it_ends_before_a_call_that_lacked_memory_elsewhere(rt: HostRuntime) -> Result<(), Fail> {
+    let alloc = rt.alloc();
+    let sizes = BlockSizes {
+        device: 1,
+        host: 1,
+        max_device: 1,
+        max_host: 1,
+    };
+    let mut capture = Capture::of_metal(alloc, false, sizes);
+    capture.freed(alloc, 1);
+    capture.lacks_memory();
+    capture.freed(alloc, 2);
+    let trace = capture.trace(true);
+    if trace.calls != "free 1\n".as_bytes() {
+        return Err(Fail::new("it has other calls"));
+    }
+    match capture.end() {
+        CaptureEnd::HostOutOfMemory => Ok(()),
+        _ => Err(Fail::new("it goes on")),
+    }
+}

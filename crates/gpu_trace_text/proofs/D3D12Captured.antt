@@ -46,7 +46,7 @@ use Rattle.gpu_d3d12.specs.declared.category.ResourceCategory.TheVariants as res
 -- ---- which words begin a command of a capture
 
 abbrev is_verb : List ℕ → Bool
-is_verb w = if bytes_eq w (codes "alloc") then true else (if bytes_eq w (codes "move") then true else (if bytes_eq w (codes "free") then true else (if bytes_eq w (codes "budget") then true else (if bytes_eq w (codes "rename") then true else false))))
+is_verb w = if bytes_eq w (codes "alloc") then true else (if bytes_eq w (codes "move") then true else (if bytes_eq w (codes "free") then true else (if bytes_eq w (codes "budget") then true else (if bytes_eq w (codes "rename") then true else (if bytes_eq w (codes "release") then true else false)))))
 
 abbrev says_verb : List (List ℕ) → Bool
 says_verb [] = false
@@ -253,6 +253,29 @@ free_reads n rest small =
     (clean_text (codes "free") refl, (clean_decimal n small, tt))
     (λ e. absurd (omega arith))
     (λ l reads. let found = asked_only (asked.Free n) (command.words (asked.Free n)) refl refl small l reads in found.1 ∙ free_one n small found.0 found.2)
+
+release_one : (n : ℕ) → n < 2 ^ 64 → (d : Command) → command.Spells (command.words (asked.Release n)) d → lines.Asks d ≡ lines.Asks (asked.Release n)
+release_one n small (asked.Release key) s =
+    let i = s.is in
+    let k : decimal key ≡ decimal n = cc in
+    ap (λ (m : ℕ). lines.Asks (asked.Release m)) (decimal_injective key n s.fits small k)
+release_one n small (asked.Alloc key q) s = absurd (other (codes "release") s.is refl refl)
+release_one n small (asked.Move key to q) s = absurd (other (codes "release") s.is refl refl)
+release_one n small (asked.Rename key name) s = absurd (other (codes "release") s.is refl refl)
+release_one n small (asked.Create key wanted) s = absurd (other (codes "release") s.is refl refl)
+release_one n small (asked.Free key) s = absurd (other (codes "release") s.is refl refl)
+release_one n small asked.Leaks s = absurd (other (codes "release") s.is refl refl)
+release_one n small asked.Report s = absurd (other (codes "release") s.is refl refl)
+release_one n small asked.Capacity s = absurd (other (codes "release") s.is refl refl)
+release_one n small (asked.Committed t) s = absurd (other (codes "release") s.is refl refl)
+release_one n small (asked.SetBudget t budget) s = absurd (other (codes "release") s.is refl refl)
+
+pub release_reads : (n : ℕ) (rest : List ℕ) → n < 2 ^ 64 → BeginsWith Means (λ l. l ≡ lines.Asks (asked.Release n)) (line_of (command.words (asked.Release n)) ++ rest) rest
+release_reads n rest small =
+    begins (λ l. l ≡ lines.Asks (asked.Release n)) (codes "release") (decimal n ∷ []) rest
+    (clean_text (codes "release") refl, (clean_decimal n small, tt))
+    (λ e. absurd (omega arith))
+    (λ l reads. let found = asked_only (asked.Release n) (command.words (asked.Release n)) refl refl small l reads in found.1 ∙ release_one n small found.0 found.2)
 
 budget_one : (t : ℕ) (b : Option ℕ) → t < 2 ^ 64 → FitsBudget b → (d : Command) → command.Spells (command.words (asked.SetBudget t b)) d → lines.Asks d ≡ lines.Asks (asked.SetBudget t b)
 budget_one t b small f (asked.SetBudget u c) s =

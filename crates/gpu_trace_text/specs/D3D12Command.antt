@@ -5,7 +5,7 @@ use Rattle.gpu_run.specs.declared.d3d12.command.Command.{Command}
 use Rattle.gpu_run.specs.declared.d3d12.command.Request.{Request}
 use Rattle.gpu_run.specs.declared.d3d12.command.Command.TheVariants.{Alloc, Move, Free, Rename, Create, Release, Leaks, Report, Capacity, Committed, SetBudget}
 use Rattle.gpu_capture.specs.Words.{alloc_words, budget_words, free_words, move_words, rename_words}
-use Rattle.gpu_capture.specs.D3D12.{d3d12_words}
+use Rattle.gpu_capture.specs.D3D12.{d3d12_words, release_words}
 use Rattle.gpu_trace_text.specs.Ask.{FitsBudget}
 use Rattle.gpu_block_session.specs.Words.{IsName}
 use Rattle.gpu_trace_text.specs.D3D12Resource.{category_word, wanted_words, FitsWanted}
@@ -21,7 +21,7 @@ words (Move key to request) = move_words key to (request_words request)
 words (Free key) = free_words key
 words (Rename key name) = rename_words key (string_bytes name)
 words (Create key wanted) = codes "create" ∷ decimal key ∷ wanted_words wanted
-words (Release key) = codes "release" ∷ decimal key ∷ []
+words (Release key) = release_words key
 words Leaks = codes "leaks" ∷ []
 words Report = codes "report" ∷ []
 words Capacity = codes "capacity" ∷ []

@@ -3,10 +3,11 @@
 ghost use Rattle.std.specs.Prelude.{◌≡◌, ℕ, ◌<◌, ◌^◌, ◌++◌, List, Option};
 ghost use Rattle.gpu_capture.specs.declared.request.Request.TheVariants as requests;
 ghost use Rattle.gpu_capture.specs.declared.request.D3D12Request.{D3D12Request};
+ghost use Rattle.gpu_capture.specs.D3D12.{release_words};
 ghost use Rattle.gpu_capture.specs.Line.{line_of, name_word};
 ghost use Rattle.gpu_capture.specs.Requests.{alloc_line, move_line};
 ghost use Rattle.gpu_capture.specs.Words.{budget_words, free_words, rename_words};
-ghost use Rattle.gpu_run.specs.declared.d3d12.command.Command.TheVariants.{Free, SetBudget};
+ghost use Rattle.gpu_run.specs.declared.d3d12.command.Command.TheVariants.{Free, Release, SetBudget};
 ghost use Rattle.gpu_trace_text.specs.Ask.{FitsBudget};
 ghost use Rattle.gpu_trace_text.specs.Captured.{BeginsWith};
 ghost use Rattle.gpu_trace_text.specs.D3D12Captured.{FitsCaptured, IsAlloc, IsMove, IsRename};
@@ -35,6 +36,13 @@ pub fn free_reads_back()
     ensures { (number : ℕ) (rest : List ℕ) → number < 2 ^ 64
         → BeginsWith Means (λ l. l ≡ lines.Asks (Free number)) (line_of (free_words number) ++ rest)
         rest }
+{}
+
+/// A committed resource's release.
+pub fn release_reads_back()
+    ensures { (number : ℕ) (rest : List ℕ) → number < 2 ^ 64
+        → BeginsWith Means (λ l. l ≡ lines.Asks (Release number))
+        (line_of (release_words number) ++ rest) rest }
 {}
 
 /// A new name, of any bytes.
