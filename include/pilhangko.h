@@ -3,8 +3,8 @@
  * It says where pieces lie; it holds no memory of a device and calls no driver. Link libgpu_c.a, and pilhangko_heap.c over the program's
  * malloc, realloc and free (docs/C.md). No call blocks, calls back or starts a thread.
  *
- * Handles. A pilhangko_virtual_block, a pilhangko_ring, a pilhangko_memory_type, a pilhangko_allocator, a pilhangko_heaps or a
- * pilhangko_metal_heaps is one pointer that the caller keeps and the library owns. The caller upholds:
+ * Handles. A pilhangko_virtual_block, a pilhangko_ring, a pilhangko_memory_type, a pilhangko_allocator, a pilhangko_heaps, a
+ * pilhangko_metal_heaps or a pilhangko_capture is one pointer that the caller keeps and the library owns. The caller upholds:
  *   - It begins zeroed, as in `pilhangko_virtual_block block = {0};`, and is empty then. create fills it, destroy leaves it empty. Each
  *     other call on an empty handle returns PILHANGKO_NO_HANDLE, so a call after destroy and a second destroy are refused.
  *   - It is never copied, and its field is never written or read. (To move it, copy it and never use the old one again.)
@@ -604,6 +604,29 @@ typedef struct pilhangko_metal_heap {
     bool leaves; /* whether it is to leave the residency set before it is released */
 } pilhangko_metal_heap;
 
+/* ---- Captures: what an allocator above was asked for, and what its driver refused, as a trace that gpu_trace replays (docs/TRACE.md). ---- */
+
+/* It is kept in host memory: at most 1 MiB, each call's lines all or none. */
+typedef struct pilhangko_capture {
+    void *opaque; /* the library's own */
+} pilhangko_capture;
+
+/* What a driver answered to one question. */
+typedef struct pilhangko_capture_answer {
+    bool refused;
+    int32_t code; /* with which it refused; 0 where it gave null without an error */
+} pilhangko_capture_answer;
+
+/* How far a capture goes. */
+typedef PILHANGKO_ENUM(pilhangko_capture_end) {
+    /* It has each call. */
+    PILHANGKO_CAPTURE_WHOLE = 1,
+    /* It ends where a trace had no room for the next call; its last line says so. */
+    PILHANGKO_CAPTURE_TOO_LONG = 2,
+    /* It ends where the host refused memory for the next call; its last line says so. */
+    PILHANGKO_CAPTURE_HOST_OUT_OF_MEMORY = 3
+} pilhangko_capture_end;
+
 /* ---- Plans: transient resources of a frame that share the memory of one heap. No handle: each call is a function of what it is given. ---- */
 
 /* A resource that passes of a frame use. It is alive from its first pass to its last one, both included; passes are numbered in the order in
@@ -876,6 +899,44 @@ PILHANGKO_NODISCARD PILHANGKO_API pilhangko_status PILHANGKO_CALL pilhangko_raw_
 PILHANGKO_NODISCARD PILHANGKO_API pilhangko_status PILHANGKO_CALL pilhangko_raw_metal_heaps_leak(
     const pilhangko_metal_heaps *heaps, size_t index, char *text, size_t room, size_t *length);
 PILHANGKO_API pilhangko_status PILHANGKO_CALL pilhangko_raw_metal_heaps_destroy(pilhangko_metal_heaps *heaps);
+
+PILHANGKO_NODISCARD PILHANGKO_API pilhangko_status PILHANGKO_CALL pilhangko_raw_capture_of_allocator(pilhangko_capture *capture,
+    const pilhangko_device_memory_type *types, size_t type_count, const pilhangko_device_heap *heaps, size_t heap_count,
+    const pilhangko_allocator_settings *settings);
+PILHANGKO_NODISCARD PILHANGKO_API pilhangko_status PILHANGKO_CALL pilhangko_raw_capture_of_heaps(
+    pilhangko_capture *capture, const pilhangko_heaps_settings *settings);
+PILHANGKO_NODISCARD PILHANGKO_API pilhangko_status PILHANGKO_CALL pilhangko_raw_capture_of_metal_heaps(
+    pilhangko_capture *capture, const pilhangko_metal_heaps_settings *settings);
+PILHANGKO_NODISCARD PILHANGKO_API pilhangko_status PILHANGKO_CALL pilhangko_raw_capture_allocator_allocated(pilhangko_capture *capture,
+    uint64_t number, const pilhangko_allocator_request *request, const char *name, size_t name_length,
+    const pilhangko_capture_answer *answers, size_t answer_count);
+PILHANGKO_NODISCARD PILHANGKO_API pilhangko_status PILHANGKO_CALL pilhangko_raw_capture_heaps_allocated(pilhangko_capture *capture,
+    uint64_t number, const pilhangko_heaps_request *request, const char *name, size_t name_length, const pilhangko_capture_answer *answers,
+    size_t answer_count);
+PILHANGKO_NODISCARD PILHANGKO_API pilhangko_status PILHANGKO_CALL pilhangko_raw_capture_metal_heaps_allocated(pilhangko_capture *capture,
+    uint64_t number, const pilhangko_metal_heaps_request *request, const char *name, size_t name_length,
+    const pilhangko_capture_answer *answers, size_t answer_count);
+PILHANGKO_NODISCARD PILHANGKO_API pilhangko_status PILHANGKO_CALL pilhangko_raw_capture_heaps_committed(pilhangko_capture *capture,
+    uint64_t number, const pilhangko_heaps_request *request, const char *name, size_t name_length, const pilhangko_capture_answer *answers,
+    size_t answer_count);
+PILHANGKO_NODISCARD PILHANGKO_API pilhangko_status PILHANGKO_CALL pilhangko_raw_capture_allocator_moved(
+    pilhangko_capture *capture, uint64_t from, uint64_t to, const pilhangko_allocator_request *request, const char *name, size_t name_length);
+PILHANGKO_NODISCARD PILHANGKO_API pilhangko_status PILHANGKO_CALL pilhangko_raw_capture_heaps_moved(
+    pilhangko_capture *capture, uint64_t from, uint64_t to, const pilhangko_heaps_request *request, const char *name, size_t name_length);
+PILHANGKO_NODISCARD PILHANGKO_API pilhangko_status PILHANGKO_CALL pilhangko_raw_capture_metal_heaps_moved(
+    pilhangko_capture *capture, uint64_t from, uint64_t to, const pilhangko_metal_heaps_request *request, const char *name, size_t name_length);
+PILHANGKO_NODISCARD PILHANGKO_API pilhangko_status PILHANGKO_CALL pilhangko_raw_capture_freed(pilhangko_capture *capture, uint64_t number);
+PILHANGKO_NODISCARD PILHANGKO_API pilhangko_status PILHANGKO_CALL pilhangko_raw_capture_released(pilhangko_capture *capture, uint64_t number);
+PILHANGKO_NODISCARD PILHANGKO_API pilhangko_status PILHANGKO_CALL pilhangko_raw_capture_renamed(
+    pilhangko_capture *capture, uint64_t number, const char *name, size_t name_length);
+PILHANGKO_NODISCARD PILHANGKO_API pilhangko_status PILHANGKO_CALL pilhangko_raw_capture_set_committed(pilhangko_capture *capture);
+PILHANGKO_NODISCARD PILHANGKO_API pilhangko_status PILHANGKO_CALL pilhangko_raw_capture_bounded(
+    pilhangko_capture *capture, size_t memory_type, bool has_budget, uint64_t bytes);
+PILHANGKO_NODISCARD PILHANGKO_API pilhangko_status PILHANGKO_CALL pilhangko_raw_capture_how_far(
+    const pilhangko_capture *capture, pilhangko_capture_end *end);
+PILHANGKO_NODISCARD PILHANGKO_API pilhangko_status PILHANGKO_CALL pilhangko_raw_capture_text(
+    const pilhangko_capture *capture, bool is_destroyed, size_t from, char *bytes, size_t room, size_t *count);
+PILHANGKO_API pilhangko_status PILHANGKO_CALL pilhangko_raw_capture_destroy(pilhangko_capture *capture);
 
 PILHANGKO_NODISCARD PILHANGKO_API pilhangko_status PILHANGKO_CALL pilhangko_raw_plan(const pilhangko_plan_resource *resources, size_t count,
     uint64_t page_size, uint64_t *offsets, size_t room, pilhangko_heap_plan *plan);
@@ -2056,6 +2117,166 @@ PILHANGKO_NODISCARD static inline pilhangko_status pilhangko_metal_heaps_leak(
 static inline pilhangko_status pilhangko_metal_heaps_destroy(pilhangko_metal_heaps *heaps) {
     if (!heaps) return PILHANGKO_NULL_POINTER;
     return pilhangko_raw_metal_heaps_destroy(heaps);
+}
+
+/* Begins the capture of an allocator that is made of these memory types, heaps and settings, in an empty handle. Where a count is 0, its
+ * pointer may be NULL.
+ * IN_USE: the handle isn't empty. HOST_OUT_OF_MEMORY. */
+PILHANGKO_NODISCARD static inline pilhangko_status pilhangko_capture_of_allocator(pilhangko_capture *capture,
+    const pilhangko_device_memory_type *types, size_t type_count, const pilhangko_device_heap *heaps, size_t heap_count,
+    const pilhangko_allocator_settings *settings) {
+    pilhangko_device_memory_type no_type = {0, 0};
+    pilhangko_device_heap no_heap = {0, 0};
+    if (!capture || (!types && type_count) || (!heaps && heap_count) || !settings) return PILHANGKO_NULL_POINTER;
+    return pilhangko_raw_capture_of_allocator(capture, types ? types : &no_type, type_count, heaps ? heaps : &no_heap, heap_count, settings);
+}
+
+/* Begins the capture of an allocator of DirectX 12's memory that is made with these settings, in an empty handle.
+ * IN_USE: the handle isn't empty. INVALID_DEVICE: the heap tier is 0. HOST_OUT_OF_MEMORY. */
+PILHANGKO_NODISCARD static inline pilhangko_status pilhangko_capture_of_heaps(
+    pilhangko_capture *capture, const pilhangko_heaps_settings *settings) {
+    if (!capture || !settings) return PILHANGKO_NULL_POINTER;
+    return pilhangko_raw_capture_of_heaps(capture, settings);
+}
+
+/* Begins the capture of an allocator of Metal's memory that is made with these settings, in an empty handle. Its residency set is question 1.
+ * IN_USE: the handle isn't empty. HOST_OUT_OF_MEMORY. */
+PILHANGKO_NODISCARD static inline pilhangko_status pilhangko_capture_of_metal_heaps(
+    pilhangko_capture *capture, const pilhangko_metal_heaps_settings *settings) {
+    if (!capture || !settings) return PILHANGKO_NULL_POINTER;
+    return pilhangko_raw_capture_of_metal_heaps(capture, settings);
+}
+
+/* An allocation was asked for, which is called by this number in the trace, whether it was refused or not, and the driver answered these
+ * questions in this order. What the host refused memory for, and what is INVALID, changed nothing: keep no such call. A name has at most 64
+ * bytes in a trace, and `_` for each one that isn't printed and for an empty name. Where answer_count is 0, answers may be NULL.
+ * NO_HANDLE. INVALID: the request or the name. */
+PILHANGKO_NODISCARD static inline pilhangko_status pilhangko_capture_allocator_allocated(pilhangko_capture *capture,
+    uint64_t number, const pilhangko_allocator_request *request, const char *name, const pilhangko_capture_answer *answers,
+    size_t answer_count) {
+    pilhangko_capture_answer none = {false, 0};
+    if (!capture || !request || (!answers && answer_count)) return PILHANGKO_NULL_POINTER;
+    return pilhangko_raw_capture_allocator_allocated(
+        capture, number, request, pilhangko_name_bytes(name), pilhangko_name_length(name), answers ? answers : &none, answer_count);
+}
+
+/* As pilhangko_capture_allocator_allocated.
+ * NO_HANDLE. INVALID: the request or the name. */
+PILHANGKO_NODISCARD static inline pilhangko_status pilhangko_capture_heaps_allocated(pilhangko_capture *capture,
+    uint64_t number, const pilhangko_heaps_request *request, const char *name, const pilhangko_capture_answer *answers,
+    size_t answer_count) {
+    pilhangko_capture_answer none = {false, 0};
+    if (!capture || !request || (!answers && answer_count)) return PILHANGKO_NULL_POINTER;
+    return pilhangko_raw_capture_heaps_allocated(
+        capture, number, request, pilhangko_name_bytes(name), pilhangko_name_length(name), answers ? answers : &none, answer_count);
+}
+
+/* As pilhangko_capture_allocator_allocated.
+ * NO_HANDLE. INVALID: the request or the name. */
+PILHANGKO_NODISCARD static inline pilhangko_status pilhangko_capture_metal_heaps_allocated(pilhangko_capture *capture,
+    uint64_t number, const pilhangko_metal_heaps_request *request, const char *name, const pilhangko_capture_answer *answers,
+    size_t answer_count) {
+    pilhangko_capture_answer none = {false, 0};
+    if (!capture || !request || (!answers && answer_count)) return PILHANGKO_NULL_POINTER;
+    return pilhangko_raw_capture_metal_heaps_allocated(
+        capture, number, request, pilhangko_name_bytes(name), pilhangko_name_length(name), answers ? answers : &none, answer_count);
+}
+
+/* A committed resource was asked for, as pilhangko_capture_heaps_allocated. The trace makes it as a buffer of whole units of 65,536 bytes. Its
+ * name may be any bytes, since no allocator is told it.
+ * NO_HANDLE. INVALID: the request. */
+PILHANGKO_NODISCARD static inline pilhangko_status pilhangko_capture_heaps_committed(pilhangko_capture *capture,
+    uint64_t number, const pilhangko_heaps_request *request, const char *name, const pilhangko_capture_answer *answers,
+    size_t answer_count) {
+    pilhangko_capture_answer none = {false, 0};
+    if (!capture || !request || (!answers && answer_count)) return PILHANGKO_NULL_POINTER;
+    return pilhangko_raw_capture_heaps_committed(
+        capture, number, request, pilhangko_name_bytes(name), pilhangko_name_length(name), answers ? answers : &none, answer_count);
+}
+
+/* A second place was asked for of the allocation `from`; where there is one, it is called `to`.
+ * NO_HANDLE. INVALID: the request or the name. */
+PILHANGKO_NODISCARD static inline pilhangko_status pilhangko_capture_allocator_moved(
+    pilhangko_capture *capture, uint64_t from, uint64_t to, const pilhangko_allocator_request *request, const char *name) {
+    if (!capture || !request) return PILHANGKO_NULL_POINTER;
+    return pilhangko_raw_capture_allocator_moved(capture, from, to, request, pilhangko_name_bytes(name), pilhangko_name_length(name));
+}
+
+/* As pilhangko_capture_allocator_moved.
+ * NO_HANDLE. INVALID: the request or the name. */
+PILHANGKO_NODISCARD static inline pilhangko_status pilhangko_capture_heaps_moved(
+    pilhangko_capture *capture, uint64_t from, uint64_t to, const pilhangko_heaps_request *request, const char *name) {
+    if (!capture || !request) return PILHANGKO_NULL_POINTER;
+    return pilhangko_raw_capture_heaps_moved(capture, from, to, request, pilhangko_name_bytes(name), pilhangko_name_length(name));
+}
+
+/* As pilhangko_capture_allocator_moved.
+ * NO_HANDLE. INVALID: the request or the name. */
+PILHANGKO_NODISCARD static inline pilhangko_status pilhangko_capture_metal_heaps_moved(
+    pilhangko_capture *capture, uint64_t from, uint64_t to, const pilhangko_metal_heaps_request *request, const char *name) {
+    if (!capture || !request) return PILHANGKO_NULL_POINTER;
+    return pilhangko_raw_capture_metal_heaps_moved(capture, from, to, request, pilhangko_name_bytes(name), pilhangko_name_length(name));
+}
+
+/* An allocation is freed.
+ * NO_HANDLE. */
+PILHANGKO_NODISCARD static inline pilhangko_status pilhangko_capture_freed(pilhangko_capture *capture, uint64_t number) {
+    if (!capture) return PILHANGKO_NULL_POINTER;
+    return pilhangko_raw_capture_freed(capture, number);
+}
+
+/* A committed resource is released.
+ * NO_HANDLE. */
+PILHANGKO_NODISCARD static inline pilhangko_status pilhangko_capture_released(pilhangko_capture *capture, uint64_t number) {
+    if (!capture) return PILHANGKO_NULL_POINTER;
+    return pilhangko_raw_capture_released(capture, number);
+}
+
+/* An allocation has a new name.
+ * NO_HANDLE. */
+PILHANGKO_NODISCARD static inline pilhangko_status pilhangko_capture_renamed(
+    pilhangko_capture *capture, uint64_t number, const char *name) {
+    if (!capture) return PILHANGKO_NULL_POINTER;
+    return pilhangko_raw_capture_renamed(capture, number, pilhangko_name_bytes(name), pilhangko_name_length(name));
+}
+
+/* The residency set is committed.
+ * NO_HANDLE. */
+PILHANGKO_NODISCARD static inline pilhangko_status pilhangko_capture_set_committed(pilhangko_capture *capture) {
+    if (!capture) return PILHANGKO_NULL_POINTER;
+    return pilhangko_raw_capture_set_committed(capture);
+}
+
+/* A memory type has this budget from now on, or none. A line is written where it is another one than the trace has.
+ * NO_HANDLE. NO_SUCH_TYPE: from the 33rd on. */
+PILHANGKO_NODISCARD static inline pilhangko_status pilhangko_capture_bounded(
+    pilhangko_capture *capture, size_t memory_type, bool has_budget, uint64_t bytes) {
+    if (!capture) return PILHANGKO_NULL_POINTER;
+    return pilhangko_raw_capture_bounded(capture, memory_type, has_budget, bytes);
+}
+
+/* How far it goes.
+ * NO_HANDLE. */
+PILHANGKO_NODISCARD static inline pilhangko_status pilhangko_capture_how_far(const pilhangko_capture *capture, pilhangko_capture_end *end) {
+    if (!capture || !end) return PILHANGKO_NULL_POINTER;
+    return pilhangko_raw_capture_how_far(capture, end);
+}
+
+/* Copies the trace from its byte `from` on, as much as there is room for, and says how many bytes that are: 0 where it has no more. Where the
+ * allocator is gone, its last line is `destroy`. Without room, bytes may be NULL.
+ * NO_HANDLE. */
+PILHANGKO_NODISCARD static inline pilhangko_status pilhangko_capture_text(
+    const pilhangko_capture *capture, bool is_destroyed, size_t from, char *bytes, size_t room, size_t *count) {
+    char none;
+    if (!capture || (!bytes && room) || !count) return PILHANGKO_NULL_POINTER;
+    return pilhangko_raw_capture_text(capture, is_destroyed, from, bytes ? bytes : &none, room, count);
+}
+
+/* Ends a capture, and leaves the handle empty.
+ * NO_HANDLE. */
+static inline pilhangko_status pilhangko_capture_destroy(pilhangko_capture *capture) {
+    if (!capture) return PILHANGKO_NULL_POINTER;
+    return pilhangko_raw_capture_destroy(capture);
 }
 
 /* Places resources in one heap: at the offsets of the order with the smallest heap, of equal ones the first of pilhangko_plan_order. Two

@@ -1,8 +1,8 @@
 -- What lies behind the handles of the C library may go to another thread: each of its types names no thread's token.
 use denote.RattleType.{RattleType}
-use denote.Param.Send.{IsSend, sendable, recorded_send, struct_send}
+use denote.Param.Send.{IsSend, sendable, array_send, recorded_send, struct_send}
 use denote.Struct.Declared.{shape}
-use denote.Builtin.{bool, u64, usize}
+use denote.Builtin.{bool, u8, u64, usize}
 use Rattle.core.specs.declared.cmp.PartialEq as eq
 use Rattle.core.specs.contracts.option.Option as Option
 use Rattle.std.proofs.Crossing as heap
@@ -69,6 +69,8 @@ use Rattle.gpu_machine.specs.contracts.vulkan.asking.Asking as Asking
 use Rattle.gpu_machine.specs.contracts.vulkan.smaller_blocks.Portion as Portion
 use Rattle.gpu_machine.specs.contracts.vulkan.description.Description as Description
 use Rattle.gpu_machine.specs.contracts.vulkan.machine.Machine as Machine
+use Rattle.gpu_capture.specs.contracts.capture.Capture as Capture
+use Rattle.gpu_capture.specs.contracts.capture.CaptureEnd as CaptureEnd
 use Rattle.gpu_ring.specs.contracts.ring.FrameStatistics as FrameStatistics
 use Rattle.gpu_ring.specs.contracts.ring.Ring as Ring
 use Rattle.gpu_c.specs.contracts.memory_type.AwaitingType as AwaitingType
@@ -383,6 +385,28 @@ ring_send =
             u.owned x.0.size vss.0,
             (u.owned x.0.tail vss.1.0, (u.owned x.0.taken vss.1.1.0, (u.owned x.0.first vss.1.1.1.0, (q.owned x.0.frames vss.1.1.1.1.0, (f.owned x.0.current vss.1.1.1.1.1.0, tt))))),
           ),
+        )),
+        tt,
+      );
+      leaving = λ k d w. tt;
+    }
+
+-- ---- a capture
+end_send : IsSend CaptureEnd.the_row
+end_send = search sendable depth 20
+
+bytes_send : IsSend (Vec.the_row u8 Heap.the_row ghosts)
+bytes_send = search (sendable, Vec-send) depth 20
+
+pub capture_send : IsSend Capture.the_row
+capture_send =
+    let b = bytes_send in let e = end_send in let u = key_send in let l = limit_send in
+    let budgets = array_send (Option.the_row u64) 32 l in
+    record {
+      owned = λ d vs x. (
+        (λ vss. (
+          tt,
+          (b.owned x.0.device vss.0, (b.owned x.0.calls vss.1.0, (e.owned x.0.end vss.1.1.0, (u.owned x.0.questions vss.1.1.1.0, (budgets.owned x.0.budgets vss.1.1.1.1.0, tt))))),
         )),
         tt,
       );

@@ -17,8 +17,10 @@ mod MetalHeapsHandleWords
 mod MetalHeapsLaws
 mod MetalHeapsRefusals
 mod CreateCalls
+mod CaptureHandleWords
 mod RingHandleWords
 mod Crosses
 mod HandleCrosses
 mod TypesVisits
 mod ToldPlans
+mod CopiedParts

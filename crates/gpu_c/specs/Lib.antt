@@ -15,6 +15,7 @@ pub mod HeapsMoves
 pub mod MetalHeaps
 pub mod MetalHeapsMoves
 pub mod CreateCall
+pub mod Capture
 pub mod Ring
 pub mod Handle
 pub mod Plan

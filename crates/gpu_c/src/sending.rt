@@ -4,6 +4,7 @@
 ghost use Rattle.std.specs.Prelude.{◌≡◌};
 
 use crate::allocator_handle::AllocatorHandle;
+use crate::capture_handle::CaptureHandle;
 use crate::heaps_handle::HeapsHandle;
 use crate::memory_type_handle::MemoryTypeHandle;
 use crate::metal_heaps_handle::MetalHeapsHandle;
@@ -57,4 +58,11 @@ pub fn sent_metal_heaps(metal: MetalHeapsHandle) -> MetalHeapsHandle
     ensures { result ≡ metal }
 {
     sent(metal)
+}
+
+/// A capture's handle may.
+pub fn sent_capture(capture: CaptureHandle) -> CaptureHandle
+    ensures { result ≡ capture }
+{
+    sent(capture)
 }
