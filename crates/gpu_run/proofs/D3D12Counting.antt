@@ -69,12 +69,10 @@ module _ (basis : Basis) where
       → Serves (kinds_of_device basis.tier) (SeesQuestion basis.tier) q old met answer new → Sees met old.source new.source
   serves_sees q old NothingMet (Ok p) new h = quiet_sees old.source new.source (ap (λ s. s.source) h.state)
   serves_sees q old NothingMet (Err e) new h = quiet_sees old.source new.source (ap (λ s. s.source) h.1)
-  serves_sees q old NoHostMemory (Ok p) new h = absurd h
   serves_sees q old NoHostMemory (Err e) new h = host_sees old.source new.source (ap (λ s. s.source) h.1)
   serves_sees q old (Answered size (Ok heap)) (Ok p) new h = asked_sees old.source new.source q.memory_type size (Ok heap) h.question
-  serves_sees q old (Answered size (Ok heap)) (Err e) new h = absurd h
-  serves_sees q old (Answered size (Err why)) (Ok p) new h = absurd h
   serves_sees q old (Answered size (Err why)) (Err e) new h = asked_sees old.source new.source q.memory_type size (Err why) h.0.question
+  serves_sees q old met answer new h = absurd h
 
   gone_sees : (old new : Seen) (went : Option ID3D12Heap) → pools.GivesBackAny SeesHeapFreed old went new → Sees NothingMet old new
   gone_sees old new None h = quiet_sees old new h
@@ -97,10 +95,8 @@ module _ (basis : Basis) where
       → ProposesBy is_same_heap t p r old met result new → Sees met old.source new.source
   proposed_sees t p r old NothingMet (Ok (Some to)) new h = quiet_sees old.source new.source (ap (λ s. s.source) h.1)
   proposed_sees t p r old NothingMet (Ok None) new h = quiet_sees old.source new.source (ap (λ s. s.source) h.1)
-  proposed_sees t p r old NothingMet (Err e) new h = absurd h
-  proposed_sees t p r old NoHostMemory (Ok o) new h = absurd h
   proposed_sees t p r old NoHostMemory (Err e) new h = host_sees old.source new.source (ap (λ s. s.source) h.1)
-  proposed_sees t p r old (Answered size answer) result new h = absurd h
+  proposed_sees t p r old met answer new h = absurd h
 
   made_sees : {A : Type 0} (made : A) (met : Environment ID3D12Heap) (answer : Result A Refusal) (old new : PoolModel)
       → Makes made met answer → new ≡ old → Sees met old.source new.source
@@ -116,11 +112,9 @@ module _ (basis : Basis) where
   pool_sees (calls.Rename t p name) met reply old new h = renamed_sees t p name old met h.0 new h.2
   pool_sees (calls.ProposeMove t p r) met reply old new h = proposed_sees t p r old met h.0 new h.2
   pool_sees (calls.SetBudget t budget) met reply old new h = unmet met old.source new.source h.0 (quiet_sees old.source new.source (ap (λ s. s.source) h.3.state))
-  pool_sees (calls.Budget t) met reply old new h = unmet met old.source new.source h.0 (quiet_sees old.source new.source (ap (λ s. s.source) h.2))
-  pool_sees calls.Capacity met reply old new h = unmet met old.source new.source h.0 (quiet_sees old.source new.source (ap (λ s. s.source) h.2))
-  pool_sees calls.Handles met reply old new h = unmet met old.source new.source h.0 (quiet_sees old.source new.source (ap (λ s. s.source) h.2))
   pool_sees calls.Report met reply old new h = made_sees _ met h.0 old new h.2 h.3
   pool_sees calls.LeakTexts met reply old new h = made_sees _ met h.0 old new h.2 h.3
+  pool_sees call met reply old new h = unmet met old.source new.source h.0 (quiet_sees old.source new.source (ap (λ s. s.source) h.2))
 
   pub allocates_sees : (d : AllocationCreateDesc) (valid : Bool) (met : Environment ID3D12Heap) (reply : Reply ID3D12Heap) (old new : PoolModel)
       → AllocatesBy (SeesQuestion basis.tier) SeesHeapFreed SeesMade SeesReleased basis d valid met reply old new → Sees met old.source new.source

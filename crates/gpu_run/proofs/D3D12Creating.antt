@@ -12,7 +12,7 @@ use Rattle.gpu_pool.specs.Reply as answers
 use Rattle.gpu_d3d12.specs.Journal.{with_made}
 use Rattle.gpu_pool.specs.Allocation.{piece_of}
 use Rattle.gpu_d3d12.specs.Live.{Allocation}
-use Rattle.gpu_d3d12.specs.Reply.{Reply, Pool, Made, Statistics}
+use Rattle.gpu_d3d12.specs.Reply.{Reply, Pool, Made}
 use Rattle.gpu_d3d12.specs.Resource.{IsMade, LiesIn, IsNewIn}
 use Rattle.gpu_d3d12.specs.State.{Model, basis_of, model_of, pool_of}
 use Rattle.gpu_d3d12.specs.Step as model
@@ -50,29 +50,11 @@ record IsMadeReply (d : ResourceCreateDesc) (r : Resource) (reply : Reply) : Typ
 
 made_reply_is : (d : ResourceCreateDesc) (r : Resource) (reply : Reply) → RepliesResource d (Ok r) reply → IsMadeReply d r reply
 made_reply_is d r (Made t piece number size) h = record { t = t; piece = piece; number = number; size = size; is = refl; made = h }
-made_reply_is d r (Pool (answers.Allocated t p)) h = absurd h
-made_reply_is d r (Pool (answers.Error e)) h = absurd h
-made_reply_is d r (Pool (answers.SecondPlace t place)) h = absurd h
-made_reply_is d r (Pool answers.Done) h = absurd h
-made_reply_is d r (Pool (answers.Budget b)) h = absurd h
-made_reply_is d r (Pool (answers.Capacity n)) h = absurd h
-made_reply_is d r (Pool (answers.Handles hs)) h = absurd h
-made_reply_is d r (Pool (answers.Report k)) h = absurd h
-made_reply_is d r (Pool (answers.LeakTexts ts)) h = absurd h
-made_reply_is d r (Statistics s) h = absurd h
+made_reply_is d r reply h = absurd h
 
 failed_reply : (d : ResourceCreateDesc) (e : AllocationError) (reply : Reply) → RepliesResource d (Err e) reply → reply ≡ Pool (answers.Error (refusal_of e))
-failed_reply d e (Made t piece number size) h = absurd h
-failed_reply d e (Pool (answers.Allocated t p)) h = absurd h
 failed_reply d e (Pool (answers.Error r)) h = ap (λ x. Pool (answers.Error x)) (sym h)
-failed_reply d e (Pool (answers.SecondPlace t place)) h = absurd h
-failed_reply d e (Pool answers.Done) h = absurd h
-failed_reply d e (Pool (answers.Budget b)) h = absurd h
-failed_reply d e (Pool (answers.Capacity n)) h = absurd h
-failed_reply d e (Pool (answers.Handles hs)) h = absurd h
-failed_reply d e (Pool (answers.Report k)) h = absurd h
-failed_reply d e (Pool (answers.LeakTexts ts)) h = absurd h
-failed_reply d e (Statistics s) h = absurd h
+failed_reply d e reply h = absurd h
 
 -- a resource that is given is live
 pub live_made : (old new : Model) (r : Resource) (piece : Option Allocation) → r.allocation ≡ piece → IsNewIn old.pool.slots new.pool.slots piece

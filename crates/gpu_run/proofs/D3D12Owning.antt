@@ -19,10 +19,9 @@ use Rattle.gpu_run.specs.D3D12Session.{SessionState, IsOwn, IsKept, IsLiveResour
 use Rattle.gpu_run.proofs.D3D12Serving.{distinct_sym}
 
 pieces_sym : (a b : Option Allocation) → ArePiecesApart a b → ArePiecesApart b a
-pieces_sym None None h = tt
-pieces_sym None (Some b) h = tt
-pieces_sym (Some a) None h = tt
 pieces_sym (Some a) (Some b) h = distinct_sym a b h
+pieces_sym None (Some b) h = tt
+pieces_sym a b h = tt
 
 apart_sym : (r q : Resource) → AreApart r q → AreApart q r
 apart_sym r q h = record { numbers = λ e. h.numbers (sym e); pieces = pieces_sym r.allocation q.allocation h.pieces }

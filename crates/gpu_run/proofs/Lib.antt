@@ -10,7 +10,6 @@ pub mod VulkanChanges
 pub mod VulkanEqualButBytes
 pub mod VulkanRanges
 pub mod VulkanKeptBudgets
-pub mod VulkanBudgeting
 mod VulkanNonInterference
 pub mod VulkanIsolation
 pub mod MetalCounting

@@ -28,25 +28,11 @@ use Rattle.gpu_run.proofs.MetalServing.{quiet, serves_at, answered_quietly, answ
 allocated_reply : (d : AllocationCreateDesc) (a : Allocation) (reply : answers.Reply MTLHeap) → Replies d (Ok a) reply
     → (t : ℕ) × (p : Piece MTLHeap) × (reply ≡ answers.Allocated t p) × IsAllocated t d.name.now p a
 allocated_reply d a (answers.Allocated t p) h = (t, p, refl, h)
-allocated_reply d a (answers.Error r) h = absurd h
-allocated_reply d a (answers.SecondPlace t place) h = absurd h
-allocated_reply d a answers.Done h = absurd h
-allocated_reply d a (answers.Budget b) h = absurd h
-allocated_reply d a (answers.Capacity n) h = absurd h
-allocated_reply d a (answers.Handles hs) h = absurd h
-allocated_reply d a (answers.Report r) h = absurd h
-allocated_reply d a (answers.LeakTexts ts) h = absurd h
+allocated_reply d a reply h = absurd h
 
 failed_reply : (d : AllocationCreateDesc) (e : AllocationError) (reply : answers.Reply MTLHeap) → Replies d (Err e) reply → reply ≡ answers.Error (refusal_of e)
-failed_reply d e (answers.Allocated t p) h = absurd h
 failed_reply d e (answers.Error r) h = ap answers.Error (sym h)
-failed_reply d e (answers.SecondPlace t place) h = absurd h
-failed_reply d e answers.Done h = absurd h
-failed_reply d e (answers.Budget b) h = absurd h
-failed_reply d e (answers.Capacity n) h = absurd h
-failed_reply d e (answers.Handles hs) h = absurd h
-failed_reply d e (answers.Report r) h = absurd h
-failed_reply d e (answers.LeakTexts ts) h = absurd h
+failed_reply d e reply h = absurd h
 
 -- what was described is asked for
 allocates_by : (key : ℕ) (name : List ℕ) (is : Result Described Refusal) (d : AllocationCreateDesc) → Describes is name d

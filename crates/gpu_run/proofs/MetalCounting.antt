@@ -25,7 +25,7 @@ use Rattle.gpu_metal.specs.Describe.{request_of}
 use Rattle.gpu_metal.specs.Live.{Allocation}
 use Rattle.gpu_metal.specs.Source.{heap_in}
 use Rattle.gpu_metal.specs.State.{Seen, Model}
-use Rattle.gpu_metal.specs.Step.{Call, Allocate, Free, ProposeMove, Commit, SetBudget, Budget, Capacity, LiveHeaps, Report, Step, AllocateStep, is_again, MoveStep, SeesQuestion, SeesHeapFreed}
+use Rattle.gpu_metal.specs.Step.{Call, Allocate, Free, ProposeMove, Commit, SetBudget, Report, Step, AllocateStep, is_again, MoveStep, SeesQuestion, SeesHeapFreed}
 use Rattle.gpu_run.specs.MetalSession.{refused_after}
 
 -- how many questions the device of a model refused
@@ -58,12 +58,10 @@ serves_counts : (q : RequestAt (Unit {0})) (old : Model) (met : Environment MTLH
     → Serves kinds_of_device SeesQuestion q old met answer new → refusals new ≡ refused_after met (refusals old)
 serves_counts q old NothingMet (Ok p) new h = ap refusals h.state
 serves_counts q old NothingMet (Err e) new h = stays old new h.1
-serves_counts q old NoHostMemory (Ok p) new h = absurd h
 serves_counts q old NoHostMemory (Err e) new h = stays old new h.1
 serves_counts q old (Answered size (Ok heap)) (Ok p) new h = asked_counts old.source new.source q.memory_type size (Ok heap) h.question
-serves_counts q old (Answered size (Ok heap)) (Err e) new h = absurd h
-serves_counts q old (Answered size (Err why)) (Ok p) new h = absurd h
 serves_counts q old (Answered size (Err why)) (Err e) new h = asked_counts old.source new.source q.memory_type size (Err why) h.0.question
+serves_counts q old met answer new h = absurd h
 
 allocate_counts : (d : AllocationCreateDesc) (valid : Bool) (met : Environment MTLHeap) (reply : Reply MTLHeap) (old new : Model)
     → AllocateStep d valid met reply old new → refusals new ≡ refused_after met (refusals old)
@@ -93,10 +91,8 @@ proposed_counts : (t : ℕ) (p : Piece MTLHeap) (r : Request) (old : Model) (met
     → ProposesBy is_same_heap t p r old met answer new → refusals new ≡ refused_after met (refusals old)
 proposed_counts t p r old NothingMet (Ok (Some to)) new h = ap refusals h.1
 proposed_counts t p r old NothingMet (Ok None) new h = stays old new h.1
-proposed_counts t p r old NothingMet (Err e) new h = absurd h
-proposed_counts t p r old NoHostMemory (Ok o) new h = absurd h
 proposed_counts t p r old NoHostMemory (Err e) new h = stays old new h.1
-proposed_counts t p r old (Answered size heap) answer new h = absurd h
+proposed_counts t p r old met answer new h = absurd h
 
 move_counts : (a : Allocation) (d : AllocationCreateDesc) (again : Bool) (met : Environment MTLHeap) (reply : Reply MTLHeap) (old new : Model)
     → MoveStep a d again met reply old new → refusals new ≡ refused_after met (refusals old)
@@ -109,7 +105,5 @@ step_counts (Free a) met reply old new h = unmet met old new h.0 (free_counts _ 
 step_counts (ProposeMove a d) met reply old new h = move_counts a d (is_again a.size d) met reply old new h
 step_counts Commit met reply old new h = unmet met old new h.0 (ap refusals h.1.1 ∙ commit_counts old.source.set old.source.history)
 step_counts (SetBudget t budget) met reply old new h = unmet met old new h.0 (ap refusals h.3.state)
-step_counts (Budget t) met reply old new h = unmet met old new h.0 (stays old new h.2)
-step_counts Capacity met reply old new h = unmet met old new h.0 (stays old new h.2)
-step_counts LiveHeaps met reply old new h = unmet met old new h.0 (stays old new h.2)
 step_counts Report met reply old new h = made_counts _ met h.0 old new h.2 h.3
+step_counts call met reply old new h = unmet met old new h.0 (stays old new h.2)

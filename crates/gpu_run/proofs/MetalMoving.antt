@@ -1,5 +1,5 @@
 -- What a proposed move under a number results in.
-use Rattle.std.proofs.Common.{◌≡◌, ◌∙◌, ℕ, List, Option, Some, None, Ok, Err, true, refl, sym, ap, subst}
+use Rattle.std.proofs.Common.{◌≡◌, ◌∙◌, ℕ, List, Some, None, Ok, Err, true, refl, sym, ap, subst}
 use Rattle.gpu_values.specs.Refusal.{refusal_of}
 use Rattle.gpu_values.specs.declared.error.AllocationError.{AllocationError}
 use Rattle.gpu_core.specs.declared.piece.Piece.{Piece}
@@ -25,40 +25,17 @@ use Rattle.gpu_run.proofs.MetalServing.{serves_at, answered_by}
 place_reply : (d : AllocationCreateDesc) (a : Allocation) (reply : answers.Reply MTLHeap) → RepliesPlace d (Ok (Some a)) reply
     → (t : ℕ) × (p : Piece MTLHeap) × (reply ≡ answers.SecondPlace t (Some p)) × IsAllocated t d.name.now p a
 place_reply d a (answers.SecondPlace t (Some p)) h = (t, p, refl, h)
-place_reply d a (answers.SecondPlace t None) h = absurd h
-place_reply d a (answers.Allocated t p) h = absurd h
-place_reply d a (answers.Error r) h = absurd h
-place_reply d a answers.Done h = absurd h
-place_reply d a (answers.Budget b) h = absurd h
-place_reply d a (answers.Capacity n) h = absurd h
-place_reply d a (answers.Handles hs) h = absurd h
-place_reply d a (answers.Report r) h = absurd h
-place_reply d a (answers.LeakTexts ts) h = absurd h
+place_reply d a reply h = absurd h
 
 -- where there is none
 none_reply : (d : AllocationCreateDesc) (reply : answers.Reply MTLHeap) → RepliesPlace d (Ok None) reply → (t : ℕ) × (reply ≡ answers.SecondPlace t None)
 none_reply d (answers.SecondPlace t None) h = (t, refl)
-none_reply d (answers.SecondPlace t (Some p)) h = absurd h
-none_reply d (answers.Allocated t p) h = absurd h
-none_reply d (answers.Error r) h = absurd h
-none_reply d answers.Done h = absurd h
-none_reply d (answers.Budget b) h = absurd h
-none_reply d (answers.Capacity n) h = absurd h
-none_reply d (answers.Handles hs) h = absurd h
-none_reply d (answers.Report r) h = absurd h
-none_reply d (answers.LeakTexts ts) h = absurd h
+none_reply d reply h = absurd h
 
 -- where it was refused
 failed_reply : (d : AllocationCreateDesc) (e : AllocationError) (reply : answers.Reply MTLHeap) → RepliesPlace d (Err e) reply → reply ≡ answers.Error (refusal_of e)
 failed_reply d e (answers.Error r) h = ap answers.Error (sym h)
-failed_reply d e (answers.SecondPlace t place) h = absurd h
-failed_reply d e (answers.Allocated t p) h = absurd h
-failed_reply d e answers.Done h = absurd h
-failed_reply d e (answers.Budget b) h = absurd h
-failed_reply d e (answers.Capacity n) h = absurd h
-failed_reply d e (answers.Handles hs) h = absurd h
-failed_reply d e (answers.Report r) h = absurd h
-failed_reply d e (answers.LeakTexts ts) h = absurd h
+failed_reply d e reply h = absurd h
 
 -- one number stands for the allocation, and the other for nothing
 module _ {D : Type 0} (g : Ghosts D) (law : (d : D) → g.refused d ≡ refused_in (g.history d)) (old new : SessionValue D) (key to : ℕ) (is : Described) (name : List ℕ) (d : AllocationCreateDesc)

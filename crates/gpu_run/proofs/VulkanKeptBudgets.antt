@@ -62,12 +62,8 @@ bound_kept setup key a (Read at size) o reply s new h = ap budgets_of h.3.1
 free_kept : (setup : Setup) (key : ℕ) (command : KeyCommand) (o : CommandEnvironment) (reply : SessionReply) (s new : SessionState) → ServesUnbound setup key command o reply s new → new.model.budgets
     ≡ s.model.budgets
 free_kept setup key (Alloc w) o reply s new h = taken setup key w o.room o.call reply s new h
-free_kept setup key (Move to w) o reply s new h = ap budgets_of h.1.1
 free_kept setup key Null o reply s new h = null_taken key o.room reply s new h.1
-free_kept setup key Free o reply s new h = ap budgets_of h.1.1
-free_kept setup key (Rename name) o reply s new h = ap budgets_of h.1.1
-free_kept setup key (Write at bytes) o reply s new h = ap budgets_of h.1.1
-free_kept setup key (Read at size) o reply s new h = ap budgets_of h.1.1
+free_kept setup key command o reply s new h = ap budgets_of h.1.1
 
 under_kept : (setup : Setup) (key : ℕ) (found : Option Allocation) (command : KeyCommand) (o : CommandEnvironment) (reply : SessionReply) (s new : SessionState) → ServesAt setup key found command o
     reply s new
@@ -88,11 +84,8 @@ module _ (ours : ℕ → Bool) (setup : Setup) (s t new next : SessionState) (o 
       next.model.budgets
   budgets_next (Under key command) (Under to other) e h k =
       under_kept setup key (s.bound key) command o reply s new h ∙ budgets ∙ sym (under_kept setup to (t.bound to) other p other_reply t next k)
-  budgets_next (Under key command) Report e h k = absurd (cc)
-  budgets_next (Under key command) Leaks e h k = absurd (cc)
-  budgets_next (Under key command) Capacity e h k = absurd (cc)
-  budgets_next (Under key command) (SetBudget u budget) e h k = absurd (cc)
   budgets_next Report other e h k = same_call model.Report (λ z f. f) h (subst (λ z. Serves setup z p other_reply t next) (sym e) k)
   budgets_next Leaks other e h k = same_call model.Leaks (λ z f. f) h (subst (λ z. Serves setup z p other_reply t next) (sym e) k)
   budgets_next Capacity other e h k = same_call model.Capacity (λ z f. f) h (subst (λ z. Serves setup z p other_reply t next) (sym e) k)
   budgets_next (SetBudget u budget) other e h k = same_call (model.SetBudget u budget) (λ z f. f) h (subst (λ z. Serves setup z p other_reply t next) (sym e) k)
+  budgets_next command call e h k = absurd (cc)

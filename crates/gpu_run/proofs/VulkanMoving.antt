@@ -1,5 +1,5 @@
 -- What a proposed move under a number results in.
-use Rattle.std.proofs.Common.{◌≡◌, ◌∙◌, ℕ, Option, Some, None, Ok, Err, true, refl, sym, ap, subst}
+use Rattle.std.proofs.Common.{◌≡◌, ◌∙◌, ℕ, Some, None, Ok, Err, true, refl, sym, ap, subst}
 use Rattle.gpu_values.specs.Refusal.{refusal_of}
 use Rattle.gpu_values.specs.declared.error.AllocationError.{AllocationError}
 use Rattle.gpu_core.specs.declared.piece.Piece.{Piece}
@@ -27,40 +27,17 @@ use Rattle.gpu_run.proofs.VulkanTaking.{shown_same}
 place_reply : (setup : Setup) (d : AllocationCreateDesc) (a : Allocation) (model_reply : answers.Reply) → RepliesPlace setup d (Ok (Some a)) model_reply → (t : ℕ) × (p : Piece DeviceMemory) ×
     (model_reply ≡ answers.SecondPlace t (Some p)) × IsAllocated setup t d p a
 place_reply setup d a (answers.SecondPlace t (Some p)) h = (t, p, refl, h)
-place_reply setup d a (answers.SecondPlace t None) h = absurd h
-place_reply setup d a (answers.Allocated t p) h = absurd h
-place_reply setup d a (answers.Error r) h = absurd h
-place_reply setup d a answers.Done h = absurd h
-place_reply setup d a (answers.Bytes xs) h = absurd h
-place_reply setup d a (answers.Capacity n) h = absurd h
-place_reply setup d a (answers.Report r) h = absurd h
-place_reply setup d a (answers.Leaks ts) h = absurd h
-place_reply setup d a (answers.Budget b) h = absurd h
+place_reply setup d a reply h = absurd h
 
 -- where there is none
 none_reply : (setup : Setup) (d : AllocationCreateDesc) (model_reply : answers.Reply) → RepliesPlace setup d (Ok None) model_reply → (t : ℕ) × (model_reply ≡ answers.SecondPlace t None)
 none_reply setup d (answers.SecondPlace t None) h = (t, refl)
-none_reply setup d (answers.SecondPlace t (Some p)) h = absurd h
-none_reply setup d (answers.Allocated t p) h = absurd h
-none_reply setup d (answers.Error r) h = absurd h
-none_reply setup d answers.Done h = absurd h
-none_reply setup d (answers.Bytes xs) h = absurd h
-none_reply setup d (answers.Capacity n) h = absurd h
-none_reply setup d (answers.Report r) h = absurd h
-none_reply setup d (answers.Leaks ts) h = absurd h
-none_reply setup d (answers.Budget b) h = absurd h
+none_reply setup d reply h = absurd h
 
 -- where it was refused
 failed_reply : (setup : Setup) (d : AllocationCreateDesc) (e : AllocationError) (model_reply : answers.Reply) → RepliesPlace setup d (Err e) model_reply → model_reply ≡ answers.Error (refusal_of e)
 failed_reply setup d e (answers.Error r) h = ap answers.Error (sym h)
-failed_reply setup d e (answers.SecondPlace t place) h = absurd h
-failed_reply setup d e (answers.Allocated t p) h = absurd h
-failed_reply setup d e answers.Done h = absurd h
-failed_reply setup d e (answers.Bytes xs) h = absurd h
-failed_reply setup d e (answers.Capacity n) h = absurd h
-failed_reply setup d e (answers.Report r) h = absurd h
-failed_reply setup d e (answers.Leaks ts) h = absurd h
-failed_reply setup d e (answers.Budget b) h = absurd h
+failed_reply setup d e reply h = absurd h
 
 -- one number stands for the allocation, and the other for nothing
 module _ {D : Type 0} (g : Ghosts D) (old new : SessionValue D) (key to : ℕ) (w : Wanted) (d : AllocationCreateDesc) (wants : Describes d w) (a : Allocation)

@@ -203,13 +203,8 @@ module _ (ours : ℕ → Bool) (written : Written) (setup : Setup) (s t new next
   binds_both key w d e (answers.Error r) y same slots h k b c =
       failed_both key w d e r slots h (subst (λ z. Step setup (model.Allocate e) p.call z t.model next.model) (sym same) k) b
       (subst (λ z. Binds setup key w e z other_reply t.bound next.bound) (sym same) c)
-  binds_both key w d e (answers.SecondPlace u place) y same slots h k b c = absurd b
-  binds_both key w d e answers.Done y same slots h k b c = absurd b
-  binds_both key w d e (answers.Bytes xs) y same slots h k b c = absurd b
-  binds_both key w d e (answers.Capacity n) y same slots h k b c = absurd b
-  binds_both key w d e (answers.Report r) y same slots h k b c = absurd b
-  binds_both key w d e (answers.Leaks ts) y same slots h k b c = absurd b
   binds_both key w d e (answers.Budget z) y same slots h k b2 c = absurd b2
+  binds_both key w d e x y same slots h k b c = absurd b
 
   take_both : (key : ℕ) (w : Wanted) (room also : Bool) → room ≡ also → ServesAlloc setup key w room o.call reply s new → ServesAlloc setup key w also p.call other_reply t next → Next ours written
       (Under key (Alloc w)) reply other_reply new next
@@ -263,13 +258,7 @@ module _ (ours : ℕ → Bool) (written : Written) (setup : Setup) (s t new next
   named_both key a b name (answers.Error r) y same found model_reply slots m n h k =
       let k2 = subst (λ z. BindsNamed key b name z other_reply t.bound next.bound) (sym model_reply) k in
       next_at (Under key (Rename name)) (Error r) (Error r) h.0 k2.0 refl (alike_kept ours written setup s t new next kept kept_new alike h.1 k2.1 slots m n)
-  named_both key a b name (answers.Allocated u q) y same found model_reply slots m n h k = absurd h
-  named_both key a b name (answers.SecondPlace u place) y same found model_reply slots m n h k = absurd h
-  named_both key a b name (answers.Bytes xs) y same found model_reply slots m n h k = absurd h
-  named_both key a b name (answers.Capacity z) y same found model_reply slots m n h k = absurd h
-  named_both key a b name (answers.Report r) y same found model_reply slots m n h k = absurd h
-  named_both key a b name (answers.Leaks ts) y same found model_reply slots m n h k = absurd h
-  named_both key a b name (answers.Budget z) y same found model_reply slots m n h k = absurd h
+  named_both key a b name d y same found model_reply slots m n h k = absurd h
 
   rename_both : (key : ℕ) (a b : Allocation) (name : List ℕ) → handle a ≡ handle b → s.bound key ≡ Some a → Renames setup key a name o.call reply s new → Renames setup key b name p.call other_reply t
       next
@@ -376,13 +365,7 @@ module _ (ours : ℕ → Bool) (written : Written) (setup : Setup) (s t new next
       let c2 = subst (λ z. BindsPlace setup to w e z other_reply t.bound next.bound) (sym same) c in
       next_at (Under key (Move to w)) (Error r) (Error r) b.0 c2.0 refl
       (alike_kept ours written setup s t new next kept kept_new alike b.1 c2.1 slots (move_refused setup a d o.call r s.model new.model h) (move_refused setup a e p.call r t.model next.model k2))
-  place_both key to w a d e (answers.Allocated u q) y same slots h k b c = absurd b
-  place_both key to w a d e answers.Done y same slots h k b c = absurd b
-  place_both key to w a d e (answers.Bytes xs) y same slots h k b c = absurd b
-  place_both key to w a d e (answers.Capacity n) y same slots h k b c = absurd b
-  place_both key to w a d e (answers.Report r) y same slots h k b c = absurd b
-  place_both key to w a d e (answers.Leaks ts) y same slots h k b c = absurd b
-  place_both key to w a d e (answers.Budget z) y same slots h k b c = absurd b
+  place_both key to w a d e x y same slots h k b c = absurd b
 
   move_in_room : (key to : ℕ) (w : Wanted) (a b : Allocation) (room also : Bool) → room ≡ also → handle a ≡ handle b → ServesMoveTo setup to a w room o.call reply s new
       → ServesMoveTo setup to b w also p.call other_reply t next → Next ours written (Under key (Move to w)) reply other_reply new next
@@ -421,12 +404,7 @@ module _ (ours : ℕ → Bool) (written : Written) (setup : Setup) (s t new next
   free_both key (Rename name) to e h k = stay_both (Under key (Rename name)) Unbound refl (λ z. z) h (subst (λ d. ServesUnbound setup key d p other_reply t next) (sym e) k)
   free_both key (Read at size) to e h k = stay_both (Under key (Read at size)) Unbound refl (λ z. z) h (subst (λ d. ServesUnbound setup key d p other_reply t next) (sym e) k)
   free_both key (Write at ws) (Write there vs) e h k = stay_both (Under key (Write at ws)) Unbound refl (λ z. z) h k
-  free_both key (Write at ws) (Alloc w) e h k = absurd (cc)
-  free_both key (Write at ws) (Move place w) e h k = absurd (cc)
-  free_both key (Write at ws) Null e h k = absurd (cc)
-  free_both key (Write at ws) Free e h k = absurd (cc)
-  free_both key (Write at ws) (Rename name) e h k = absurd (cc)
-  free_both key (Write at ws) (Read there size) e h k = absurd (cc)
+  free_both key command other e h k = absurd (cc)
 
   bound_both : (key : ℕ) (command to : KeyCommand) (a b : Allocation) → EqualButBytesKeyCommand (ours key) command to → handle a ≡ handle b → s.bound key ≡ Some a → ServesBound setup key a command o
       reply s new → ServesBound setup key b to p other_reply t next
@@ -440,12 +418,7 @@ module _ (ours : ℕ → Bool) (written : Written) (setup : Setup) (s t new next
   bound_both key (Read at size) to a b e same found h k = get_both key at size a b same found h (subst (λ d. ServesBound setup key b d p other_reply t next) (sym e) k)
   bound_both key (Write at ws) (Write there vs) a b e same found h k = put_both key at ws vs a b e.1 e.2 same found h
       (subst (λ z. ServesBound setup key b (Write z vs) p other_reply t next) (sym e.0) k)
-  bound_both key (Write at ws) (Alloc w) a b e same found h k = absurd (cc)
-  bound_both key (Write at ws) (Move place w) a b e same found h k = absurd (cc)
-  bound_both key (Write at ws) Null a b e same found h k = absurd (cc)
-  bound_both key (Write at ws) Free a b e same found h k = absurd (cc)
-  bound_both key (Write at ws) (Rename name) a b e same found h k = absurd (cc)
-  bound_both key (Write at ws) (Read there size) a b e same found h k = absurd (cc)
+  bound_both key command other a b e same found h k = absurd (cc)
 
   under_both : (key : ℕ) (command to : KeyCommand) (x y : Option Allocation) → EqualButBytesKeyCommand (ours key) command to → option_map handle x ≡ option_map handle y → s.bound key ≡ x → ServesAt
       setup key x command o reply s new → ServesAt setup key y to p other_reply t next
@@ -458,15 +431,11 @@ module _ (ours : ℕ → Bool) (written : Written) (setup : Setup) (s t new next
   -- ---- what is shown and reply
 
   told_both : (x y : answers.Reply) (u v : SessionReply) → EqualButBytesReply x y → reply_by x ≡ Some u → reply_by y ≡ Some v → u ≡ v
-  told_both (answers.Error r) y u v same e f = some_same u v (sym e ∙ ap reply_by same ∙ f)
-  told_both (answers.Capacity n) y u v same e f = some_same u v (sym e ∙ ap reply_by same ∙ f)
-  told_both (answers.Report r) y u v same e f = some_same u v (sym e ∙ ap reply_by same ∙ f)
-  told_both (answers.Leaks ts) y u v same e f = some_same u v (sym e ∙ ap reply_by same ∙ f)
   told_both (answers.Allocated i q) y u v same e f = absurd (none_some u e)
   told_both (answers.SecondPlace i place) y u v same e f = absurd (none_some u e)
-  told_both answers.Done y u v same e f = some_same u v (sym e ∙ ap reply_by same ∙ f)
   told_both (answers.Budget b) y u v same e f = absurd (none_some u e)
   told_both (answers.Bytes xs) y u v same e f = absurd (none_some u e)
+  told_both x y u v same e f = some_same u v (sym e ∙ ap reply_by same ∙ f)
 
   asks_both : (call : model.Call) → ((o : CallEnvironment) (model_reply : answers.Reply) (old now : ModelState) → Step setup call o model_reply old now → now.byte_view ≡ old.byte_view)
       → ((x y : answers.Reply) → Step setup call o.call x s.model new.model → Step setup call p.call y t.model next.model → EqualButBytesReply x y × (new.model.slots ≡ next.model.slots))
@@ -491,10 +460,6 @@ module _ (ours : ℕ → Bool) (written : Written) (setup : Setup) (s t new next
   step_next (Under key command) (Under to deed2) e h k =
       let k2 = subst (λ z. Serves setup (Under z deed2) p other_reply t next) (sym e.0) k in
       under_both key command deed2 (s.bound key) (t.bound key) e.1 (alike.bound key) refl h k2
-  step_next (Under key command) Report e h k = absurd (cc)
-  step_next (Under key command) Leaks e h k = absurd (cc)
-  step_next (Under key command) Capacity e h k = absurd (cc)
-  step_next (Under key command) (SetBudget u budget) e h k = absurd (cc)
   step_next Report other e h k =
       let both = asks_both model.Report (λ z x y w a. ap (λ q. q.byte_view) (shown_same setup z x y w a)) (lawful model.Report (λ z f. f)) h
       (subst (λ z. Serves setup z p other_reply t next) (sym e) k) in
@@ -511,6 +476,7 @@ module _ (ours : ℕ → Bool) (written : Written) (setup : Setup) (s t new next
       let call = model.SetBudget u budget in
       let both = asks_both call (budget_set_bytes setup u budget) (lawful call (λ z f. f)) h (subst (λ z. Serves setup z p other_reply t next) (sym e) k) in
       record { reply_alike = both.0; alike = both.1 }
+  step_next command call e h k = absurd (cc)
 
 -- ---- whole runs
 
@@ -520,19 +486,16 @@ runs_alike : (ours : ℕ → Bool) (written : Written) (setup : Setup) (s t end 
     EqualButBytesReplies ours written commands reply other_reply
 runs_alike ours written setup s t end other_end [] [] [] [] [] [] kept a same x c h k = tt
 runs_alike ours written setup s t end other_end [] [] [] [] [] (v ∷ other_reply) kept a same x c h k = absurd k
-runs_alike ours written setup s t end other_end [] [] [] [] (u ∷ reply) other_reply kept a same x c h k = absurd h
 runs_alike ours written setup s t end other_end [] [] [] (q ∷ p) reply other_reply kept a same x c h k = absurd c
-runs_alike ours written setup s t end other_end [] [] (r ∷ o) p reply other_reply kept a same x c h k = absurd h
 runs_alike ours written setup s t end other_end [] (y ∷ others) o p reply other_reply kept a same x c h k = absurd x
 runs_alike ours written setup s t end other_end (y ∷ commands) [] o p reply other_reply kept a same x c h k = absurd x
-runs_alike ours written setup s t end other_end (y ∷ commands) (z ∷ others) [] p reply other_reply kept a same x c h k = absurd h
 runs_alike ours written setup s t end other_end (y ∷ commands) (z ∷ others) (r ∷ o) [] reply other_reply kept a same x c h k = absurd c
-runs_alike ours written setup s t end other_end (y ∷ commands) (z ∷ others) (r ∷ o) (q ∷ p) [] other_reply kept a same x c h k = absurd h
 runs_alike ours written setup s t end other_end (y ∷ commands) (z ∷ others) (r ∷ o) (q ∷ p) (u ∷ reply) [] kept a same x c h k = absurd k
 runs_alike ours written setup s t end other_end (y ∷ commands) (z ∷ others) (r ∷ o) (q ∷ p) (u ∷ reply) (v ∷ other_reply) kept a same x c h k =
     let n = step_next ours written setup s t h.0 k.0 r q u v kept h.2 a same c.0 y z x.0 h.1 k.1 in
     let now = budgets_next ours setup s t h.0 k.0 r q u v kept.sound a.slots same c.0 y z x.0 h.1 k.1 in
     (n.reply_alike, runs_alike ours (written_after y u written) setup h.0 k.0 end other_end commands others o p reply other_reply h.2 n.alike now x.1 c.1 h.3 k.3)
+runs_alike ours written setup s t end other_end d b y z w other_reply kept a same x c h k = absurd h
 
 pub non_interference : NonInterference
 non_interference ours setup start end other_end commands others o p reply other_reply kept x c h k =

@@ -15,7 +15,8 @@ use Rattle.gpu_vulkan.specs.Step as model
 use Rattle.gpu_vulkan.specs.Step.{CallEnvironment, nothing_met, MeetsNothing, count_after, latest_after, IsStep}
 use Rattle.gpu_vulkan.proofs.Untouched.{same_leaves}
 use Rattle.gpu_vulkan.specs.declared.allocation.Allocation.{Allocation}
-use Rattle.gpu_run.specs.VulkanCommand.{KeyCommand, Under}
+use Rattle.gpu_run.specs.Bindings.{bindings_of}
+use Rattle.gpu_run.specs.VulkanCommand.{KeyCommand, SessionCommand, Under}
 use Rattle.gpu_run.specs.VulkanReply.{SessionReply}
 use Rattle.gpu_run.specs.VulkanSession.{SessionState, IsOwn, SessionInvariant, CommandEnvironment, Stays, ServesAt, Serves, Runs, Asks, reply_by}
 use Rattle.gpu_run.specs.VulkanServed.{SessionValue, session_of, command_of, reply_of, count_over, latest_over, IsServed, ServesCommand, IsRun, ServesEach}
@@ -49,11 +50,20 @@ module _ {D : Type 0} (g : Ghosts D) where
     constant = (refl, refl);
   }
 
-  -- a call that is no one number's
-  pub asked : (call : model.Call) (model_reply : answers.Reply) (reply : SessionReply) (old : SessionValue D) → reply_by model_reply ≡ Some reply →
-      (step : IsStep g call model_reply old.allocator old.allocator)
-      → Asks old.allocator.setup call step.environment reply (session_of g old) (session_of g old)
-  asked call model_reply reply old is step = record { model_reply = model_reply; step = step.step; reply_is = is; bound = refl }
+  -- a call that is no one number's, and changes budgets at most
+  pub told : (call : model.Call) (model_reply : answers.Reply) (command : SessionCommand) (reply : SessionReply) (old new : SessionValue D) → reply_by model_reply ≡ Some reply → new.bound ≡ old.bound
+      → new.allocator ≡ record old.allocator { budgets = new.allocator.budgets } → (step : IsStep g call model_reply old.allocator new.allocator)
+      → (Asks old.allocator.setup call step.environment reply (session_of g old) (session_of g new)
+      → Serves old.allocator.setup command (record { room = true; call = step.environment }) reply (session_of g old) (session_of g new))
+      → IsServed g command reply old new
+  told call model_reply command reply old new is bound others step serves = record {
+    environment = record { room = true; call = step.environment };
+    serves = serves (record { model_reply = model_reply; step = step.step; reply_is = is; bound = ap (λ b. bindings_of b) bound });
+    count = step.count;
+    latest = step.latest;
+    untouched = λ e. same_leaves (g.held old.allocator.device) (g.held new.allocator.device) (ap (λ (a : State D). g.held a.device) others);
+    constant = (ap (λ (a : State D). a.setup) others, ap (λ (a : State D). a.first) others);
+  }
 
 -- the blocks are sound and the numbers own their pieces, in the words of callers
 pub kept_at : {D : Type 0} (g : Ghosts D) (allocator : State D) (bound : List (ℕ × Allocation)) (s : SessionValue D) (setup : Setup) → record { allocator = allocator; bound = bound } ≡ s →

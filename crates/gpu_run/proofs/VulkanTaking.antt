@@ -33,25 +33,11 @@ use Rattle.gpu_run.proofs.VulkanServing.{serves_at}
 allocated_reply : (setup : Setup) (d : AllocationCreateDesc) (a : Allocation) (model_reply : answers.Reply) → Replies setup d (Ok a) model_reply → (t : ℕ) × (p : Piece DeviceMemory) ×
     (model_reply ≡ answers.Allocated t p) × IsAllocated setup t d p a
 allocated_reply setup d a (answers.Allocated t p) h = (t, p, refl, h)
-allocated_reply setup d a (answers.Error r) h = absurd h
-allocated_reply setup d a (answers.SecondPlace t place) h = absurd h
-allocated_reply setup d a answers.Done h = absurd h
-allocated_reply setup d a (answers.Bytes xs) h = absurd h
-allocated_reply setup d a (answers.Capacity n) h = absurd h
-allocated_reply setup d a (answers.Report r) h = absurd h
-allocated_reply setup d a (answers.Leaks ts) h = absurd h
-allocated_reply setup d a (answers.Budget b) h = absurd h
+allocated_reply setup d a reply h = absurd h
 
 failed_reply : (setup : Setup) (d : AllocationCreateDesc) (e : AllocationError) (model_reply : answers.Reply) → Replies setup d (Err e) model_reply → model_reply ≡ answers.Error (refusal_of e)
-failed_reply setup d e (answers.Allocated t p) h = absurd h
 failed_reply setup d e (answers.Error r) h = ap answers.Error (sym h)
-failed_reply setup d e (answers.SecondPlace t place) h = absurd h
-failed_reply setup d e answers.Done h = absurd h
-failed_reply setup d e (answers.Bytes xs) h = absurd h
-failed_reply setup d e (answers.Capacity n) h = absurd h
-failed_reply setup d e (answers.Report r) h = absurd h
-failed_reply setup d e (answers.Leaks ts) h = absurd h
-failed_reply setup d e (answers.Budget b) h = absurd h
+failed_reply setup d e reply h = absurd h
 
 mapped_is : (found : Option MemoryTypeInfo) (a : Allocation) → IsSomeAnd found (λ info. (a.memory_properties ≡ info.property_flags) × (a.mapped ≡ is_host_visible info)) → a.mapped ≡ mapped_by found
 mapped_is None a h = absurd h

@@ -1,5 +1,5 @@
 -- What a caller's numbers stand for.
-use Rattle.std.specs.Prelude.{◌≡◌, ◌≢◌, ℕ, ◌==◌, nat_eq, if◌then◌else◌, List, Option, Some, None}
+use Rattle.std.specs.Prelude.{◌≡◌, ◌≢◌, ℕ, ◌==◌, nat_eq, if◌then◌else◌, List, Option, Some}
 use Rattle.std.specs.Map.{lookup}
 
 -- what each number stands for, None for nothing

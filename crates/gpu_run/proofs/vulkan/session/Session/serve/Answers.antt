@@ -1,11 +1,10 @@
-use Rattle.std.proofs.Common.{rules, true, refl, sym, subst}
+use Rattle.std.proofs.Common.{rules, refl, sym, subst}
 use Rattle.gpu_vulkan.specs.Reply as answers
 use Rattle.gpu_vulkan.specs.Step as model
-use Rattle.gpu_vulkan.proofs.Untouched.{same_leaves}
 use Rattle.gpu_run.specs.VulkanCommand as commands
 use Rattle.gpu_run.specs.VulkanReply as replies
 use Rattle.gpu_run.specs.VulkanServed.{SessionValue, command_of, IsServed}
-use Rattle.gpu_run.proofs.VulkanServing.{asked}
+use Rattle.gpu_run.proofs.VulkanServing.{told}
 use Rattle.gpu_run.proofs.vulkan.session.Session.serve.Goals as goal
 
 pub returns-in-Capacity : goal.returns-in-Capacity
@@ -13,16 +12,9 @@ returns-in-Capacity g c =
     let V = g.D.VulkanDevice in
     let s : SessionValue g.row.D.Denot = record { allocator = c.self.inside.allocator; bound = c.self.inside.bound.entries } in
     let reply = replies.Capacity c.capacity.result in
-    let step = c.capacity.ensures.step in
     subst (λ o. IsServed V (command_of o) reply c.args.self.now c.args.self.now) (sym c.in-Capacity.is)
-    (subst (λ x. IsServed V commands.Capacity reply x x) c.self.view_is (record {
-      environment = record { room = true; call = step.environment };
-      serves = asked V model.Capacity (answers.Capacity c.capacity.result) reply s refl step;
-      count = step.count;
-      latest = step.latest;
-      untouched = λ e. same_leaves (V.held s.allocator.device) (V.held s.allocator.device) refl;
-      constant = (refl, refl);
-    }))
+    (subst (λ x. IsServed V commands.Capacity reply x x) c.self.view_is
+    (told V model.Capacity (answers.Capacity c.capacity.result) commands.Capacity reply s s refl refl refl c.capacity.ensures.step (λ a. a)))
 
 pub returns-in-Read : goal.returns-in-Read
 returns-in-Read g c = search rules
