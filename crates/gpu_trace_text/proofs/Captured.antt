@@ -18,6 +18,7 @@ use Rattle.gpu_block_session.specs.Line.{IsRemark}
 use Rattle.gpu_block_session.specs.Words.{words_of, IsName}
 use Rattle.gpu_block_session.specs.BlockSort.{BlockSort, sort_of_command}
 use Rattle.gpu_trace_text.specs.Ask as ask
+use Rattle.gpu_trace_text.specs.Spelled.{Spells}
 use Rattle.gpu_trace_text.specs.Setting as setting
 use Rattle.gpu_trace_text.specs.Line.{Reads, Means}
 use Rattle.gpu_trace_text.specs.Sort.{of_block, asks, makes, destroys, sort_of, sort_of_setting}
@@ -59,7 +60,7 @@ setting_not_asked (Sizes device host max_device max_host) e = cc
 setting_not_asked (Refuse question refusal) e = cc
 
 -- a command's words are read as a command's of the same words
-asked_only : (c : Command) (ws : List (List ℕ)) → ws ≡ ask.words c → ask.Fits c → (l : Line) → Reads ws l → (d : Command) × (l ≡ lines.Asks d) × ask.Spells ws d
+asked_only : (c : Command) (ws : List (List ℕ)) → ws ≡ ask.words c → ask.Fits c → (l : Line) → Reads ws l → (d : Command) × (l ≡ lines.Asks d) × Spells ask.words ask.Fits ws d
 asked_only c ws is f lines.Blank r = absurd r
 asked_only c ws is f (lines.Says d) r =
     let e : asks ≡ of_block (sort_of_command d) = sym (of_ask c f) ∙ (ap by_words (sym is) ∙ sort_read ws (lines.Says d) tt r) in cc
@@ -123,23 +124,15 @@ same_request r q f h e =
 
 -- ---- allocations
 
-alloc_one : (n : ℕ) (r : VulkanRequest) → n < 2 ^ 64 → FitsCaptured r → (d : Command) → ask.Spells (alloc_words n (vulkan_words r.requirements r.location r.linear r.scheme (name_word r.name.now))) d
+alloc_one : (n : ℕ) (r : VulkanRequest) → n < 2 ^ 64 → FitsCaptured r → (d : Command) → Spells ask.words ask.Fits (alloc_words n (vulkan_words r.requirements r.location r.linear r.scheme (name_word r.name.now))) d
     → IsAlloc n r (lines.Asks d)
 alloc_one n r small f (asked.Alloc key q) s =
     let i = s.is in
     let k : decimal key ≡ decimal n = cc in
     let e : vulkan_words r.requirements r.location r.linear r.scheme (name_word r.name.now) ≡ ask.request_words q = cc in
     (decimal_injective key n s.fits.0 small k, same_request r q f s.fits.1 e)
-alloc_one n r small f (asked.Move key to q) s = absurd (other (codes "alloc") s.is refl refl)
-alloc_one n r small f (asked.Null key) s = absurd (other (codes "alloc") s.is refl refl)
-alloc_one n r small f (asked.Free key) s = absurd (other (codes "alloc") s.is refl refl)
-alloc_one n r small f (asked.Rename key name) s = absurd (other (codes "alloc") s.is refl refl)
-alloc_one n r small f (asked.Write key at bytes) s = absurd (other (codes "alloc") s.is refl refl)
-alloc_one n r small f (asked.Read key at size) s = absurd (other (codes "alloc") s.is refl refl)
 alloc_one n r small f asked.Report s = absurd s.fits
-alloc_one n r small f asked.Leaks s = absurd (other (codes "alloc") s.is refl refl)
-alloc_one n r small f asked.Capacity s = absurd (other (codes "alloc") s.is refl refl)
-alloc_one n r small f (asked.SetBudget t budget) s = absurd (other (codes "alloc") s.is refl refl)
+alloc_one n r small f d s = absurd (other (codes "alloc") s.is refl refl)
 
 pub alloc_reads : Global → (n : ℕ) (r : VulkanRequest) (rest : List ℕ) → n < 2 ^ 64 → FitsCaptured r
     → BeginsWith Means (IsAlloc n r) (line_of (alloc_words n (vulkan_words r.requirements r.location r.linear r.scheme (name_word r.name.now))) ++ rest) rest
@@ -155,23 +148,15 @@ alloc_reads g n r rest small f =
 -- ---- second places
 
 move_one : (n m : ℕ) (r : VulkanRequest) → n < 2 ^ 64 → m < 2 ^ 64 → FitsCaptured r → (d : Command)
-    → ask.Spells (move_words n m (vulkan_words r.requirements r.location r.linear r.scheme (name_word r.name.now))) d → IsMove n m r (lines.Asks d)
+    → Spells ask.words ask.Fits (move_words n m (vulkan_words r.requirements r.location r.linear r.scheme (name_word r.name.now))) d → IsMove n m r (lines.Asks d)
 move_one n m r small also f (asked.Move key to q) s =
     let i = s.is in
     let k : decimal key ≡ decimal n = cc in
     let t : decimal to ≡ decimal m = cc in
     let e : vulkan_words r.requirements r.location r.linear r.scheme (name_word r.name.now) ≡ ask.request_words q = cc in
     (decimal_injective key n s.fits.0 small k, decimal_injective to m s.fits.1 also t, same_request r q f s.fits.2 e)
-move_one n m r small also f (asked.Alloc key q) s = absurd (other (codes "move") s.is refl refl)
-move_one n m r small also f (asked.Null key) s = absurd (other (codes "move") s.is refl refl)
-move_one n m r small also f (asked.Free key) s = absurd (other (codes "move") s.is refl refl)
-move_one n m r small also f (asked.Rename key name) s = absurd (other (codes "move") s.is refl refl)
-move_one n m r small also f (asked.Write key at bytes) s = absurd (other (codes "move") s.is refl refl)
-move_one n m r small also f (asked.Read key at size) s = absurd (other (codes "move") s.is refl refl)
 move_one n m r small also f asked.Report s = absurd s.fits
-move_one n m r small also f asked.Leaks s = absurd (other (codes "move") s.is refl refl)
-move_one n m r small also f asked.Capacity s = absurd (other (codes "move") s.is refl refl)
-move_one n m r small also f (asked.SetBudget t budget) s = absurd (other (codes "move") s.is refl refl)
+move_one n m r small also f d s = absurd (other (codes "move") s.is refl refl)
 
 pub move_reads : Global → (n m : ℕ) (r : VulkanRequest) (rest : List ℕ) → n < 2 ^ 64 → m < 2 ^ 64 → FitsCaptured r
     → BeginsWith Means (IsMove n m r) (line_of (move_words n m (vulkan_words r.requirements r.location r.linear r.scheme (name_word r.name.now))) ++ rest) rest
@@ -186,22 +171,14 @@ move_reads g n m r rest small also f =
 
 -- ---- names
 
-rename_one : (n : ℕ) (name : List ℕ) → n < 2 ^ 64 → (d : Command) → ask.Spells (rename_words n (name_word name)) d → IsRename n name (lines.Asks d)
+rename_one : (n : ℕ) (name : List ℕ) → n < 2 ^ 64 → (d : Command) → Spells ask.words ask.Fits (rename_words n (name_word name)) d → IsRename n name (lines.Asks d)
 rename_one n name small (asked.Rename key read) s =
     let i = s.is in
     let k : decimal key ≡ decimal n = cc in
     let same : string_bytes read ≡ name_word name = cc in
     (decimal_injective key n s.fits.0 small k, same)
-rename_one n name small (asked.Alloc key q) s = absurd (other (codes "rename") s.is refl refl)
-rename_one n name small (asked.Move key to q) s = absurd (other (codes "rename") s.is refl refl)
-rename_one n name small (asked.Null key) s = absurd (other (codes "rename") s.is refl refl)
-rename_one n name small (asked.Free key) s = absurd (other (codes "rename") s.is refl refl)
-rename_one n name small (asked.Write key at bytes) s = absurd (other (codes "rename") s.is refl refl)
-rename_one n name small (asked.Read key at size) s = absurd (other (codes "rename") s.is refl refl)
 rename_one n name small asked.Report s = absurd s.fits
-rename_one n name small asked.Leaks s = absurd (other (codes "rename") s.is refl refl)
-rename_one n name small asked.Capacity s = absurd (other (codes "rename") s.is refl refl)
-rename_one n name small (asked.SetBudget t budget) s = absurd (other (codes "rename") s.is refl refl)
+rename_one n name small d s = absurd (other (codes "rename") s.is refl refl)
 
 pub rename_reads : Global → (n : ℕ) (name rest : List ℕ) → n < 2 ^ 64 → BeginsWith Means (IsRename n name) (line_of (rename_words n (name_word name)) ++ rest) rest
 rename_reads g n name rest small =
@@ -215,21 +192,13 @@ rename_reads g n name rest small =
 
 -- ---- frees and budgets
 
-free_one : (n : ℕ) → n < 2 ^ 64 → (d : Command) → ask.Spells (ask.words (asked.Free n)) d → lines.Asks d ≡ lines.Asks (asked.Free n)
+free_one : (n : ℕ) → n < 2 ^ 64 → (d : Command) → Spells ask.words ask.Fits (ask.words (asked.Free n)) d → lines.Asks d ≡ lines.Asks (asked.Free n)
 free_one n small (asked.Free key) s =
     let i = s.is in
     let k : decimal key ≡ decimal n = cc in
     ap (λ (m : ℕ). lines.Asks (asked.Free m)) (decimal_injective key n s.fits small k)
-free_one n small (asked.Alloc key q) s = absurd (other (codes "free") s.is refl refl)
-free_one n small (asked.Move key to q) s = absurd (other (codes "free") s.is refl refl)
-free_one n small (asked.Null key) s = absurd (other (codes "free") s.is refl refl)
-free_one n small (asked.Rename key name) s = absurd (other (codes "free") s.is refl refl)
-free_one n small (asked.Write key at bytes) s = absurd (other (codes "free") s.is refl refl)
-free_one n small (asked.Read key at size) s = absurd (other (codes "free") s.is refl refl)
 free_one n small asked.Report s = absurd s.fits
-free_one n small asked.Leaks s = absurd (other (codes "free") s.is refl refl)
-free_one n small asked.Capacity s = absurd (other (codes "free") s.is refl refl)
-free_one n small (asked.SetBudget t budget) s = absurd (other (codes "free") s.is refl refl)
+free_one n small d s = absurd (other (codes "free") s.is refl refl)
 
 pub free_reads : (n : ℕ) (rest : List ℕ) → n < 2 ^ 64 → BeginsWith Means (λ l. l ≡ lines.Asks (asked.Free n)) (line_of (ask.words (asked.Free n)) ++ rest) rest
 free_reads n rest small =
@@ -238,7 +207,7 @@ free_reads n rest small =
     (λ e. absurd (omega arith))
     (λ l reads. let found = asked_only (asked.Free n) (ask.words (asked.Free n)) refl small l reads in found.1 ∙ free_one n small found.0 found.2)
 
-budget_one : (t : ℕ) (b : Option ℕ) → t < 2 ^ 64 → ask.FitsBudget b → (d : Command) → ask.Spells (ask.words (asked.SetBudget t b)) d → lines.Asks d ≡ lines.Asks (asked.SetBudget t b)
+budget_one : (t : ℕ) (b : Option ℕ) → t < 2 ^ 64 → ask.FitsBudget b → (d : Command) → Spells ask.words ask.Fits (ask.words (asked.SetBudget t b)) d → lines.Asks d ≡ lines.Asks (asked.SetBudget t b)
 budget_one t b small f (asked.SetBudget u c) s =
     let i = s.is in
     let k : decimal u ≡ decimal t = cc in
@@ -246,16 +215,8 @@ budget_one t b small f (asked.SetBudget u c) s =
     let same : u ≡ t = decimal_injective u t s.fits.0 small k in
     let also : c ≡ b = budget-one b c f s.fits.1 w in
     ap (λ (m : ℕ). lines.Asks (asked.SetBudget m c)) same ∙ ap (λ (m : Option ℕ). lines.Asks (asked.SetBudget t m)) also
-budget_one t b small f (asked.Alloc key q) s = absurd (other (codes "budget") s.is refl refl)
-budget_one t b small f (asked.Move key to q) s = absurd (other (codes "budget") s.is refl refl)
-budget_one t b small f (asked.Null key) s = absurd (other (codes "budget") s.is refl refl)
-budget_one t b small f (asked.Free key) s = absurd (other (codes "budget") s.is refl refl)
-budget_one t b small f (asked.Rename key name) s = absurd (other (codes "budget") s.is refl refl)
-budget_one t b small f (asked.Write key at bytes) s = absurd (other (codes "budget") s.is refl refl)
-budget_one t b small f (asked.Read key at size) s = absurd (other (codes "budget") s.is refl refl)
 budget_one t b small f asked.Report s = absurd s.fits
-budget_one t b small f asked.Leaks s = absurd (other (codes "budget") s.is refl refl)
-budget_one t b small f asked.Capacity s = absurd (other (codes "budget") s.is refl refl)
+budget_one t b small f d s = absurd (other (codes "budget") s.is refl refl)
 
 pub budget_reads : (t : ℕ) (b : Option ℕ) (rest : List ℕ) → t < 2 ^ 64 → ask.FitsBudget b
     → BeginsWith Means (λ l. l ≡ lines.Asks (asked.SetBudget t b)) (line_of (ask.words (asked.SetBudget t b)) ++ rest) rest

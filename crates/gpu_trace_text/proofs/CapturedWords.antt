@@ -99,12 +99,7 @@ scheme-one (DedicatedBuffer a) (DedicatedBuffer b) f g e =
     let same : decimal b.0 ≡ decimal a.0 = cc in ap (λ (n : ℕ). DedicatedBuffer (record { 0 = n })) (decimal_injective b.0 a.0 g f same)
 scheme-one (DedicatedImage a) (DedicatedImage b) f g e =
     let same : decimal b.0 ≡ decimal a.0 = cc in ap (λ (n : ℕ). DedicatedImage (record { 0 = n })) (decimal_injective b.0 a.0 g f same)
-scheme-one GpuAllocatorManaged (DedicatedBuffer b) f g e = absurd (first_differs e refl)
-scheme-one GpuAllocatorManaged (DedicatedImage b) f g e = absurd (first_differs e refl)
-scheme-one (DedicatedBuffer a) GpuAllocatorManaged f g e = absurd (first_differs e refl)
-scheme-one (DedicatedBuffer a) (DedicatedImage b) f g e = absurd (first_differs e refl)
-scheme-one (DedicatedImage a) GpuAllocatorManaged f g e = absurd (first_differs e refl)
-scheme-one (DedicatedImage a) (DedicatedBuffer b) f g e = absurd (first_differs e refl)
+scheme-one a b f g e = absurd (first_differs e refl)
 
 pub ascii : (bs : List ℕ) → All (IsInRange 32 126) bs → IsAscii bs
 ascii bs h i = elim (cases_lt i (length bs)) [

@@ -19,6 +19,7 @@ use Rattle.gpu_block_session.specs.Line.{IsRemark}
 use Rattle.gpu_block_session.specs.Words.{words_of, IsName}
 use Rattle.gpu_trace_text.specs.Ask.{FitsBudget}
 use Rattle.gpu_trace_text.specs.D3D12Command as command
+use Rattle.gpu_trace_text.specs.Spelled.{Spells}
 use Rattle.gpu_trace_text.specs.D3D12Setting as setting
 use Rattle.gpu_trace_text.specs.D3D12Line.{Reads, Means}
 use Rattle.gpu_trace_text.specs.Captured.{BeginsWith}
@@ -66,14 +67,12 @@ setting_verb (settings.Shared (shared.Sizes device host max_device max_host)) = 
 setting_verb (settings.Shared (shared.Refuse question refusal)) = refl
 
 -- a command's words are read as a command's of the same words
-asked_only : (c : Command) (ws : List (List ℕ)) → ws ≡ command.words c → says_verb ws ≡ true → command.Fits c → (l : Line) → Reads ws l → (d : Command) × (l ≡ lines.Asks d) × command.Spells ws d
+asked_only : (c : Command) (ws : List (List ℕ)) → ws ≡ command.words c → says_verb ws ≡ true → command.Fits c → (l : Line) → Reads ws l → (d : Command) × (l ≡ lines.Asks d) × Spells command.words command.Fits ws d
 asked_only c ws is v f lines.Blank r = absurd r
 asked_only c ws is v f (lines.Configures s) r = absurd (false≢true (sym (setting_verb s) ∙ (ap says_verb (sym r.is) ∙ v)))
-asked_only c ws is v f lines.New r = absurd (false≢true (ap says_verb (sym r) ∙ v))
 asked_only c ws is v f (lines.Asks d) r = (d, refl, r)
-asked_only c ws is v f lines.Asked r = absurd (false≢true (ap says_verb (sym r) ∙ v))
-asked_only c ws is v f lines.Destroy r = absurd (false≢true (ap says_verb (sym r) ∙ v))
 asked_only c ws is v f lines.Bad r = absurd (r.command c (record { is = is; fits = f }))
+asked_only c ws is v f l r = absurd (false≢true (ap says_verb (sym r) ∙ v))
 
 -- ---- a line of words
 
@@ -150,22 +149,13 @@ same_request r q f h e =
 
 -- ---- commands
 
-alloc_one : (n : ℕ) (r : D3D12Request) → n < 2 ^ 64 → FitsCaptured r → (d : Command) → command.Spells (alloc_words n (request_words r)) d → IsAlloc n r (lines.Asks d)
+alloc_one : (n : ℕ) (r : D3D12Request) → n < 2 ^ 64 → FitsCaptured r → (d : Command) → Spells command.words command.Fits (alloc_words n (request_words r)) d → IsAlloc n r (lines.Asks d)
 alloc_one n r small f (asked.Alloc key q) s =
     let i = s.is in
     let k : decimal key ≡ decimal n = cc in
     let e : request_words r ≡ command.request_words q = cc in
     (decimal_injective key n s.fits.0 small k, same_request r q f s.fits.1 e)
-alloc_one n r small f (asked.Move key to q) s = absurd (other (codes "alloc") s.is refl refl)
-alloc_one n r small f (asked.Free key) s = absurd (other (codes "alloc") s.is refl refl)
-alloc_one n r small f (asked.Rename key name) s = absurd (other (codes "alloc") s.is refl refl)
-alloc_one n r small f (asked.Create key wanted) s = absurd (other (codes "alloc") s.is refl refl)
-alloc_one n r small f (asked.Release key) s = absurd (other (codes "alloc") s.is refl refl)
-alloc_one n r small f asked.Leaks s = absurd (other (codes "alloc") s.is refl refl)
-alloc_one n r small f asked.Report s = absurd (other (codes "alloc") s.is refl refl)
-alloc_one n r small f asked.Capacity s = absurd (other (codes "alloc") s.is refl refl)
-alloc_one n r small f (asked.Committed t) s = absurd (other (codes "alloc") s.is refl refl)
-alloc_one n r small f (asked.SetBudget t budget) s = absurd (other (codes "alloc") s.is refl refl)
+alloc_one n r small f d s = absurd (other (codes "alloc") s.is refl refl)
 
 pub alloc_reads : Global → (n : ℕ) (r : D3D12Request) (rest : List ℕ) → n < 2 ^ 64 → FitsCaptured r → BeginsWith Means (IsAlloc n r) (line_of (alloc_words n (request_words r)) ++ rest) rest
 alloc_reads g n r rest small f =
@@ -176,23 +166,14 @@ alloc_reads g n r rest small f =
     let found = asked_only (asked.Alloc n (request_of g r)) (alloc_words n (request_words r)) (ap (alloc_words n) (spelled g r)) refl (small, fits_request g r f) l reads in
     subst (IsAlloc n r) (sym found.1) (alloc_one n r small f found.0 found.2))
 
-move_one : (n m : ℕ) (r : D3D12Request) → n < 2 ^ 64 → m < 2 ^ 64 → FitsCaptured r → (d : Command) → command.Spells (move_words n m (request_words r)) d → IsMove n m r (lines.Asks d)
+move_one : (n m : ℕ) (r : D3D12Request) → n < 2 ^ 64 → m < 2 ^ 64 → FitsCaptured r → (d : Command) → Spells command.words command.Fits (move_words n m (request_words r)) d → IsMove n m r (lines.Asks d)
 move_one n m r small also f (asked.Move key to q) s =
     let i = s.is in
     let k : decimal key ≡ decimal n = cc in
     let t : decimal to ≡ decimal m = cc in
     let e : request_words r ≡ command.request_words q = cc in
     (decimal_injective key n s.fits.0 small k, decimal_injective to m s.fits.1 also t, same_request r q f s.fits.2 e)
-move_one n m r small also f (asked.Alloc key q) s = absurd (other (codes "move") s.is refl refl)
-move_one n m r small also f (asked.Free key) s = absurd (other (codes "move") s.is refl refl)
-move_one n m r small also f (asked.Rename key name) s = absurd (other (codes "move") s.is refl refl)
-move_one n m r small also f (asked.Create key wanted) s = absurd (other (codes "move") s.is refl refl)
-move_one n m r small also f (asked.Release key) s = absurd (other (codes "move") s.is refl refl)
-move_one n m r small also f asked.Leaks s = absurd (other (codes "move") s.is refl refl)
-move_one n m r small also f asked.Report s = absurd (other (codes "move") s.is refl refl)
-move_one n m r small also f asked.Capacity s = absurd (other (codes "move") s.is refl refl)
-move_one n m r small also f (asked.Committed t) s = absurd (other (codes "move") s.is refl refl)
-move_one n m r small also f (asked.SetBudget t budget) s = absurd (other (codes "move") s.is refl refl)
+move_one n m r small also f d s = absurd (other (codes "move") s.is refl refl)
 
 pub move_reads : Global → (n m : ℕ) (r : D3D12Request) (rest : List ℕ) → n < 2 ^ 64 → m < 2 ^ 64 → FitsCaptured r
     → BeginsWith Means (IsMove n m r) (line_of (move_words n m (request_words r)) ++ rest) rest
@@ -204,22 +185,13 @@ move_reads g n m r rest small also f =
     let found = asked_only (asked.Move n m (request_of g r)) (move_words n m (request_words r)) (ap (move_words n m) (spelled g r)) refl (small, also, fits_request g r f) l reads in
     subst (IsMove n m r) (sym found.1) (move_one n m r small also f found.0 found.2))
 
-rename_one : (n : ℕ) (name : List ℕ) → n < 2 ^ 64 → (d : Command) → command.Spells (rename_words n (name_word name)) d → IsRename n name (lines.Asks d)
+rename_one : (n : ℕ) (name : List ℕ) → n < 2 ^ 64 → (d : Command) → Spells command.words command.Fits (rename_words n (name_word name)) d → IsRename n name (lines.Asks d)
 rename_one n name small (asked.Rename key read) s =
     let i = s.is in
     let k : decimal key ≡ decimal n = cc in
     let same : string_bytes read ≡ name_word name = cc in
     (decimal_injective key n s.fits.0 small k, same)
-rename_one n name small (asked.Alloc key q) s = absurd (other (codes "rename") s.is refl refl)
-rename_one n name small (asked.Move key to q) s = absurd (other (codes "rename") s.is refl refl)
-rename_one n name small (asked.Free key) s = absurd (other (codes "rename") s.is refl refl)
-rename_one n name small (asked.Create key wanted) s = absurd (other (codes "rename") s.is refl refl)
-rename_one n name small (asked.Release key) s = absurd (other (codes "rename") s.is refl refl)
-rename_one n name small asked.Leaks s = absurd (other (codes "rename") s.is refl refl)
-rename_one n name small asked.Report s = absurd (other (codes "rename") s.is refl refl)
-rename_one n name small asked.Capacity s = absurd (other (codes "rename") s.is refl refl)
-rename_one n name small (asked.Committed t) s = absurd (other (codes "rename") s.is refl refl)
-rename_one n name small (asked.SetBudget t budget) s = absurd (other (codes "rename") s.is refl refl)
+rename_one n name small d s = absurd (other (codes "rename") s.is refl refl)
 
 pub rename_reads : Global → (n : ℕ) (name rest : List ℕ) → n < 2 ^ 64 → BeginsWith Means (IsRename n name) (line_of (rename_words n (name_word name)) ++ rest) rest
 rename_reads g n name rest small =
@@ -231,21 +203,12 @@ rename_reads g n name rest small =
     (small, subst IsName (sym (text_of g name).1) (is_name name)) l reads in
     subst (IsRename n name) (sym found.1) (rename_one n name small found.0 found.2))
 
-free_one : (n : ℕ) → n < 2 ^ 64 → (d : Command) → command.Spells (command.words (asked.Free n)) d → lines.Asks d ≡ lines.Asks (asked.Free n)
+free_one : (n : ℕ) → n < 2 ^ 64 → (d : Command) → Spells command.words command.Fits (command.words (asked.Free n)) d → lines.Asks d ≡ lines.Asks (asked.Free n)
 free_one n small (asked.Free key) s =
     let i = s.is in
     let k : decimal key ≡ decimal n = cc in
     ap (λ (m : ℕ). lines.Asks (asked.Free m)) (decimal_injective key n s.fits small k)
-free_one n small (asked.Alloc key q) s = absurd (other (codes "free") s.is refl refl)
-free_one n small (asked.Move key to q) s = absurd (other (codes "free") s.is refl refl)
-free_one n small (asked.Rename key name) s = absurd (other (codes "free") s.is refl refl)
-free_one n small (asked.Create key wanted) s = absurd (other (codes "free") s.is refl refl)
-free_one n small (asked.Release key) s = absurd (other (codes "free") s.is refl refl)
-free_one n small asked.Leaks s = absurd (other (codes "free") s.is refl refl)
-free_one n small asked.Report s = absurd (other (codes "free") s.is refl refl)
-free_one n small asked.Capacity s = absurd (other (codes "free") s.is refl refl)
-free_one n small (asked.Committed t) s = absurd (other (codes "free") s.is refl refl)
-free_one n small (asked.SetBudget t budget) s = absurd (other (codes "free") s.is refl refl)
+free_one n small d s = absurd (other (codes "free") s.is refl refl)
 
 pub free_reads : (n : ℕ) (rest : List ℕ) → n < 2 ^ 64 → BeginsWith Means (λ l. l ≡ lines.Asks (asked.Free n)) (line_of (command.words (asked.Free n)) ++ rest) rest
 free_reads n rest small =
@@ -254,30 +217,7 @@ free_reads n rest small =
     (λ e. absurd (omega arith))
     (λ l reads. let found = asked_only (asked.Free n) (command.words (asked.Free n)) refl refl small l reads in found.1 ∙ free_one n small found.0 found.2)
 
-release_one : (n : ℕ) → n < 2 ^ 64 → (d : Command) → command.Spells (command.words (asked.Release n)) d → lines.Asks d ≡ lines.Asks (asked.Release n)
-release_one n small (asked.Release key) s =
-    let i = s.is in
-    let k : decimal key ≡ decimal n = cc in
-    ap (λ (m : ℕ). lines.Asks (asked.Release m)) (decimal_injective key n s.fits small k)
-release_one n small (asked.Alloc key q) s = absurd (other (codes "release") s.is refl refl)
-release_one n small (asked.Move key to q) s = absurd (other (codes "release") s.is refl refl)
-release_one n small (asked.Rename key name) s = absurd (other (codes "release") s.is refl refl)
-release_one n small (asked.Create key wanted) s = absurd (other (codes "release") s.is refl refl)
-release_one n small (asked.Free key) s = absurd (other (codes "release") s.is refl refl)
-release_one n small asked.Leaks s = absurd (other (codes "release") s.is refl refl)
-release_one n small asked.Report s = absurd (other (codes "release") s.is refl refl)
-release_one n small asked.Capacity s = absurd (other (codes "release") s.is refl refl)
-release_one n small (asked.Committed t) s = absurd (other (codes "release") s.is refl refl)
-release_one n small (asked.SetBudget t budget) s = absurd (other (codes "release") s.is refl refl)
-
-pub release_reads : (n : ℕ) (rest : List ℕ) → n < 2 ^ 64 → BeginsWith Means (λ l. l ≡ lines.Asks (asked.Release n)) (line_of (command.words (asked.Release n)) ++ rest) rest
-release_reads n rest small =
-    begins (λ l. l ≡ lines.Asks (asked.Release n)) (codes "release") (decimal n ∷ []) rest
-    (clean_text (codes "release") refl, (clean_decimal n small, tt))
-    (λ e. absurd (omega arith))
-    (λ l reads. let found = asked_only (asked.Release n) (command.words (asked.Release n)) refl refl small l reads in found.1 ∙ release_one n small found.0 found.2)
-
-budget_one : (t : ℕ) (b : Option ℕ) → t < 2 ^ 64 → FitsBudget b → (d : Command) → command.Spells (command.words (asked.SetBudget t b)) d → lines.Asks d ≡ lines.Asks (asked.SetBudget t b)
+budget_one : (t : ℕ) (b : Option ℕ) → t < 2 ^ 64 → FitsBudget b → (d : Command) → Spells command.words command.Fits (command.words (asked.SetBudget t b)) d → lines.Asks d ≡ lines.Asks (asked.SetBudget t b)
 budget_one t b small f (asked.SetBudget u c) s =
     let i = s.is in
     let k : decimal u ≡ decimal t = cc in
@@ -285,16 +225,7 @@ budget_one t b small f (asked.SetBudget u c) s =
     let same : u ≡ t = decimal_injective u t s.fits.0 small k in
     let also : c ≡ b = budget-one b c f s.fits.1 w in
     ap (λ (m : ℕ). lines.Asks (asked.SetBudget m c)) same ∙ ap (λ (m : Option ℕ). lines.Asks (asked.SetBudget t m)) also
-budget_one t b small f (asked.Alloc key q) s = absurd (other (codes "budget") s.is refl refl)
-budget_one t b small f (asked.Move key to q) s = absurd (other (codes "budget") s.is refl refl)
-budget_one t b small f (asked.Free key) s = absurd (other (codes "budget") s.is refl refl)
-budget_one t b small f (asked.Rename key name) s = absurd (other (codes "budget") s.is refl refl)
-budget_one t b small f (asked.Create key wanted) s = absurd (other (codes "budget") s.is refl refl)
-budget_one t b small f (asked.Release key) s = absurd (other (codes "budget") s.is refl refl)
-budget_one t b small f asked.Leaks s = absurd (other (codes "budget") s.is refl refl)
-budget_one t b small f asked.Report s = absurd (other (codes "budget") s.is refl refl)
-budget_one t b small f asked.Capacity s = absurd (other (codes "budget") s.is refl refl)
-budget_one t b small f (asked.Committed u) s = absurd (other (codes "budget") s.is refl refl)
+budget_one t b small f d s = absurd (other (codes "budget") s.is refl refl)
 
 pub budget_reads : (t : ℕ) (b : Option ℕ) (rest : List ℕ) → t < 2 ^ 64 → FitsBudget b
     → BeginsWith Means (λ l. l ≡ lines.Asks (asked.SetBudget t b)) (line_of (command.words (asked.SetBudget t b)) ++ rest) rest
@@ -386,11 +317,9 @@ own_setting-one (settings.Shared a) (settings.Shared b) f g e = ap settings.Shar
 setting_closes : (s : Setting) → setting.Fits s → (l : Line) → Reads (setting.words s) l → l ≡ lines.Configures s
 setting_closes s f lines.Blank r = absurd r
 setting_closes s f (lines.Configures t) r = ap lines.Configures (own_setting-one s t f r.fits r.is)
-setting_closes s f lines.New r = absurd (false≢true (ap says_setting (sym r) ∙ setting_says s))
 setting_closes s f (lines.Asks c) r = absurd (false≢true (sym (command_says c) ∙ (ap says_setting (sym r.is) ∙ setting_says s)))
-setting_closes s f lines.Asked r = absurd (false≢true (ap says_setting (sym r) ∙ setting_says s))
-setting_closes s f lines.Destroy r = absurd (false≢true (ap says_setting (sym r) ∙ setting_says s))
 setting_closes s f lines.Bad r = absurd (r.setting s (record { is = refl; fits = f }))
+setting_closes s f l r = absurd (false≢true (ap says_setting (sym r) ∙ setting_says s))
 
 configures : (s : Setting) (w : List ℕ) (ws : List (List ℕ)) (rest : List ℕ) → setting.words s ≡ w ∷ ws → setting.Fits s → AreClean (w ∷ ws) → (IsRemark (joined (w ∷ ws)) → ⊥)
     → BeginsWith Means (λ l. l ≡ lines.Configures s) (line_of (setting.words s) ++ rest) rest
@@ -411,10 +340,8 @@ setting_reads (settings.Interface versions.Device10) rest f =
     configures (settings.Interface versions.Device10) (codes "version") (codes "device10" ∷ []) rest refl f (clean_text (codes "version") refl, (clean_text (codes "device10") refl, tt)) (λ e. absurd (omega arith))
 setting_reads (settings.Interface versions.Device12) rest f =
     configures (settings.Interface versions.Device12) (codes "version") (codes "device12" ∷ []) rest refl f (clean_text (codes "version") refl, (clean_text (codes "device12") refl, tt)) (λ e. absurd (omega arith))
-setting_reads (settings.Shared (shared.Heap size)) rest f = absurd f.0
-setting_reads (settings.Shared (shared.MemoryType flags heap)) rest f = absurd f.0
-setting_reads (settings.Shared (shared.Granularity bytes)) rest f = absurd f.0
 setting_reads (settings.Shared (shared.Sizes device host max_device max_host)) rest f =
     configures (settings.Shared (shared.Sizes device host max_device max_host)) (codes "sizes") (decimal device ∷ decimal host ∷ decimal max_device ∷ decimal max_host ∷ []) rest refl f (clean_text (codes "sizes") refl, (clean_decimal device f.1.0, (clean_decimal host f.1.1, (clean_decimal max_device f.1.2, (clean_decimal max_host f.1.3, tt))))) (λ e. absurd (omega arith))
 setting_reads (settings.Shared (shared.Refuse question refusal)) rest f =
     configures (settings.Shared (shared.Refuse question refusal)) (codes "refuse") (decimal question ∷ refusal_word refusal ∷ []) rest refl f (clean_text (codes "refuse") refl, (clean_decimal question f.1.1, (clean_refusal refusal f.1.2, tt))) (λ e. absurd (omega arith))
+setting_reads s rest f = absurd f.0

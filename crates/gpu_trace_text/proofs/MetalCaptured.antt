@@ -18,6 +18,7 @@ use Rattle.gpu_block_session.specs.Line.{IsRemark}
 use Rattle.gpu_block_session.specs.Words.{words_of, IsName}
 use Rattle.gpu_trace_text.specs.Ask.{FitsBudget}
 use Rattle.gpu_trace_text.specs.MetalCommand as command
+use Rattle.gpu_trace_text.specs.Spelled.{Spells}
 use Rattle.gpu_trace_text.specs.MetalSetting as setting
 use Rattle.gpu_trace_text.specs.MetalLine.{Reads, Means}
 use Rattle.gpu_trace_text.specs.Captured.{BeginsWith}
@@ -61,7 +62,7 @@ look_verb Committed = refl
 look_verb Asked = refl
 
 -- a command's words are read as a command's of the same words
-asked_only : (c : Command) (ws : List (List ℕ)) → ws ≡ command.words c → says_verb ws ≡ true → command.Fits c → (l : Line) → Reads ws l → (d : Command) × (l ≡ lines.Asks d) × command.Spells ws d
+asked_only : (c : Command) (ws : List (List ℕ)) → ws ≡ command.words c → says_verb ws ≡ true → command.Fits c → (l : Line) → Reads ws l → (d : Command) × (l ≡ lines.Asks d) × Spells command.words command.Fits ws d
 asked_only c ws is v f lines.Blank r = absurd r
 asked_only c ws is v f (lines.Configures s) r = absurd (false≢true (sym (setting_verb s) ∙ (ap says_verb (sym r.is) ∙ v)))
 asked_only c ws is v f lines.New r = absurd (false≢true (ap says_verb (sym r) ∙ v))
@@ -125,22 +126,13 @@ same_request r q f h e =
 
 -- ---- commands
 
-alloc_one : (n : ℕ) (r : MetalRequest) → n < 2 ^ 64 → FitsCaptured r → (d : Command) → command.Spells (alloc_words n (request_words r)) d → IsAlloc n r (lines.Asks d)
+alloc_one : (n : ℕ) (r : MetalRequest) → n < 2 ^ 64 → FitsCaptured r → (d : Command) → Spells command.words command.Fits (alloc_words n (request_words r)) d → IsAlloc n r (lines.Asks d)
 alloc_one n r small f (asked.Alloc key q) s =
     let i = s.is in
     let k : decimal key ≡ decimal n = cc in
     let e : request_words r ≡ command.request_words q = cc in
     (decimal_injective key n s.fits.0 small k, same_request r q f s.fits.1 e)
-alloc_one n r small f (asked.Move key to q) s = absurd (other (codes "alloc") s.is refl refl)
-alloc_one n r small f (asked.Buffer key length location name) s = absurd (other (codes "alloc") s.is refl refl)
-alloc_one n r small f (asked.AccelerationStructure key size location name) s = absurd (other (codes "alloc") s.is refl refl)
-alloc_one n r small f (asked.Texture key t name) s = absurd (other (codes "alloc") s.is refl refl)
-alloc_one n r small f (asked.Free key) s = absurd (other (codes "alloc") s.is refl refl)
-alloc_one n r small f asked.Heaps s = absurd (other (codes "alloc") s.is refl refl)
-alloc_one n r small f asked.Commit s = absurd (other (codes "alloc") s.is refl refl)
-alloc_one n r small f asked.Report s = absurd (other (codes "alloc") s.is refl refl)
-alloc_one n r small f asked.Capacity s = absurd (other (codes "alloc") s.is refl refl)
-alloc_one n r small f (asked.SetBudget t budget) s = absurd (other (codes "alloc") s.is refl refl)
+alloc_one n r small f d s = absurd (other (codes "alloc") s.is refl refl)
 
 pub alloc_reads : Global → (n : ℕ) (r : MetalRequest) (rest : List ℕ) → n < 2 ^ 64 → FitsCaptured r → BeginsWith Means (IsAlloc n r) (line_of (alloc_words n (request_words r)) ++ rest) rest
 alloc_reads g n r rest small f =
@@ -151,23 +143,14 @@ alloc_reads g n r rest small f =
     let found = asked_only (asked.Alloc n (request_of g r)) (alloc_words n (request_words r)) (ap (alloc_words n) (spelled g r)) refl (small, fits_request g r f) l reads in
     subst (IsAlloc n r) (sym found.1) (alloc_one n r small f found.0 found.2))
 
-move_one : (n m : ℕ) (r : MetalRequest) → n < 2 ^ 64 → m < 2 ^ 64 → FitsCaptured r → (d : Command) → command.Spells (move_words n m (request_words r)) d → IsMove n m r (lines.Asks d)
+move_one : (n m : ℕ) (r : MetalRequest) → n < 2 ^ 64 → m < 2 ^ 64 → FitsCaptured r → (d : Command) → Spells command.words command.Fits (move_words n m (request_words r)) d → IsMove n m r (lines.Asks d)
 move_one n m r small also f (asked.Move key to q) s =
     let i = s.is in
     let k : decimal key ≡ decimal n = cc in
     let t : decimal to ≡ decimal m = cc in
     let e : request_words r ≡ command.request_words q = cc in
     (decimal_injective key n s.fits.0 small k, decimal_injective to m s.fits.1 also t, same_request r q f s.fits.2 e)
-move_one n m r small also f (asked.Alloc key q) s = absurd (other (codes "move") s.is refl refl)
-move_one n m r small also f (asked.Buffer key length location name) s = absurd (other (codes "move") s.is refl refl)
-move_one n m r small also f (asked.AccelerationStructure key size location name) s = absurd (other (codes "move") s.is refl refl)
-move_one n m r small also f (asked.Texture key t name) s = absurd (other (codes "move") s.is refl refl)
-move_one n m r small also f (asked.Free key) s = absurd (other (codes "move") s.is refl refl)
-move_one n m r small also f asked.Heaps s = absurd (other (codes "move") s.is refl refl)
-move_one n m r small also f asked.Commit s = absurd (other (codes "move") s.is refl refl)
-move_one n m r small also f asked.Report s = absurd (other (codes "move") s.is refl refl)
-move_one n m r small also f asked.Capacity s = absurd (other (codes "move") s.is refl refl)
-move_one n m r small also f (asked.SetBudget t budget) s = absurd (other (codes "move") s.is refl refl)
+move_one n m r small also f d s = absurd (other (codes "move") s.is refl refl)
 
 pub move_reads : Global → (n m : ℕ) (r : MetalRequest) (rest : List ℕ) → n < 2 ^ 64 → m < 2 ^ 64 → FitsCaptured r
     → BeginsWith Means (IsMove n m r) (line_of (move_words n m (request_words r)) ++ rest) rest
@@ -179,21 +162,12 @@ move_reads g n m r rest small also f =
     let found = asked_only (asked.Move n m (request_of g r)) (move_words n m (request_words r)) (ap (move_words n m) (spelled g r)) refl (small, also, fits_request g r f) l reads in
     subst (IsMove n m r) (sym found.1) (move_one n m r small also f found.0 found.2))
 
-free_one : (n : ℕ) → n < 2 ^ 64 → (d : Command) → command.Spells (command.words (asked.Free n)) d → lines.Asks d ≡ lines.Asks (asked.Free n)
+free_one : (n : ℕ) → n < 2 ^ 64 → (d : Command) → Spells command.words command.Fits (command.words (asked.Free n)) d → lines.Asks d ≡ lines.Asks (asked.Free n)
 free_one n small (asked.Free key) s =
     let i = s.is in
     let k : decimal key ≡ decimal n = cc in
     ap (λ (m : ℕ). lines.Asks (asked.Free m)) (decimal_injective key n s.fits small k)
-free_one n small (asked.Alloc key q) s = absurd (other (codes "free") s.is refl refl)
-free_one n small (asked.Move key to q) s = absurd (other (codes "free") s.is refl refl)
-free_one n small (asked.Buffer key length location name) s = absurd (other (codes "free") s.is refl refl)
-free_one n small (asked.AccelerationStructure key size location name) s = absurd (other (codes "free") s.is refl refl)
-free_one n small (asked.Texture key t name) s = absurd (other (codes "free") s.is refl refl)
-free_one n small asked.Heaps s = absurd (other (codes "free") s.is refl refl)
-free_one n small asked.Commit s = absurd (other (codes "free") s.is refl refl)
-free_one n small asked.Report s = absurd (other (codes "free") s.is refl refl)
-free_one n small asked.Capacity s = absurd (other (codes "free") s.is refl refl)
-free_one n small (asked.SetBudget t budget) s = absurd (other (codes "free") s.is refl refl)
+free_one n small d s = absurd (other (codes "free") s.is refl refl)
 
 pub free_reads : (n : ℕ) (rest : List ℕ) → n < 2 ^ 64 → BeginsWith Means (λ l. l ≡ lines.Asks (asked.Free n)) (line_of (command.words (asked.Free n)) ++ rest) rest
 free_reads n rest small =
@@ -202,7 +176,7 @@ free_reads n rest small =
     (λ e. absurd (omega arith))
     (λ l reads. let found = asked_only (asked.Free n) (command.words (asked.Free n)) refl refl small l reads in found.1 ∙ free_one n small found.0 found.2)
 
-budget_one : (t : ℕ) (b : Option ℕ) → t < 2 ^ 64 → FitsBudget b → (d : Command) → command.Spells (command.words (asked.SetBudget t b)) d → lines.Asks d ≡ lines.Asks (asked.SetBudget t b)
+budget_one : (t : ℕ) (b : Option ℕ) → t < 2 ^ 64 → FitsBudget b → (d : Command) → Spells command.words command.Fits (command.words (asked.SetBudget t b)) d → lines.Asks d ≡ lines.Asks (asked.SetBudget t b)
 budget_one t b small f (asked.SetBudget u c) s =
     let i = s.is in
     let k : decimal u ≡ decimal t = cc in
@@ -210,16 +184,7 @@ budget_one t b small f (asked.SetBudget u c) s =
     let same : u ≡ t = decimal_injective u t s.fits.0 small k in
     let also : c ≡ b = budget-one b c f s.fits.1 w in
     ap (λ (m : ℕ). lines.Asks (asked.SetBudget m c)) same ∙ ap (λ (m : Option ℕ). lines.Asks (asked.SetBudget t m)) also
-budget_one t b small f (asked.Alloc key q) s = absurd (other (codes "budget") s.is refl refl)
-budget_one t b small f (asked.Move key to q) s = absurd (other (codes "budget") s.is refl refl)
-budget_one t b small f (asked.Buffer key length location name) s = absurd (other (codes "budget") s.is refl refl)
-budget_one t b small f (asked.AccelerationStructure key size location name) s = absurd (other (codes "budget") s.is refl refl)
-budget_one t b small f (asked.Texture key texture name) s = absurd (other (codes "budget") s.is refl refl)
-budget_one t b small f (asked.Free key) s = absurd (other (codes "budget") s.is refl refl)
-budget_one t b small f asked.Heaps s = absurd (other (codes "budget") s.is refl refl)
-budget_one t b small f asked.Commit s = absurd (other (codes "budget") s.is refl refl)
-budget_one t b small f asked.Report s = absurd (other (codes "budget") s.is refl refl)
-budget_one t b small f asked.Capacity s = absurd (other (codes "budget") s.is refl refl)
+budget_one t b small f d s = absurd (other (codes "budget") s.is refl refl)
 
 pub budget_reads : (t : ℕ) (b : Option ℕ) (rest : List ℕ) → t < 2 ^ 64 → FitsBudget b
     → BeginsWith Means (λ l. l ≡ lines.Asks (asked.SetBudget t b)) (line_of (command.words (asked.SetBudget t b)) ++ rest) rest
@@ -229,18 +194,9 @@ budget_reads t b rest small f =
     (λ e. absurd (omega arith))
     (λ l reads. let found = asked_only (asked.SetBudget t b) (command.words (asked.SetBudget t b)) refl refl (small, f) l reads in found.1 ∙ budget_one t b small f found.0 found.2)
 
-commit_one : (d : Command) → command.Spells (command.words asked.Commit) d → lines.Asks d ≡ lines.Asks asked.Commit
+commit_one : (d : Command) → Spells command.words command.Fits (command.words asked.Commit) d → lines.Asks d ≡ lines.Asks asked.Commit
 commit_one asked.Commit s = refl
-commit_one (asked.Alloc key q) s = absurd (other (codes "commit") s.is refl refl)
-commit_one (asked.Move key to q) s = absurd (other (codes "commit") s.is refl refl)
-commit_one (asked.Buffer key length location name) s = absurd (other (codes "commit") s.is refl refl)
-commit_one (asked.AccelerationStructure key size location name) s = absurd (other (codes "commit") s.is refl refl)
-commit_one (asked.Texture key t name) s = absurd (other (codes "commit") s.is refl refl)
-commit_one (asked.Free key) s = absurd (other (codes "commit") s.is refl refl)
-commit_one asked.Heaps s = absurd (other (codes "commit") s.is refl refl)
-commit_one asked.Report s = absurd (other (codes "commit") s.is refl refl)
-commit_one asked.Capacity s = absurd (other (codes "commit") s.is refl refl)
-commit_one (asked.SetBudget t budget) s = absurd (other (codes "commit") s.is refl refl)
+commit_one d s = absurd (other (codes "commit") s.is refl refl)
 
 pub commit_reads : (rest : List ℕ) → BeginsWith Means (λ l. l ≡ lines.Asks asked.Commit) (line_of (codes "commit" ∷ []) ++ rest) rest
 commit_reads rest =
@@ -340,10 +296,8 @@ setting_reads (settings.Sets false) rest f =
     configures (settings.Sets false) (codes "sets") (codes "no" ∷ []) rest refl f (clean_text (codes "sets") refl, (clean_text (codes "no") refl, tt)) (λ e. absurd (omega arith))
 setting_reads (settings.Residency false) rest f =
     configures (settings.Residency false) (codes "residency") (codes "no" ∷ []) rest refl f (clean_text (codes "residency") refl, (clean_text (codes "no") refl, tt)) (λ e. absurd (omega arith))
-setting_reads (settings.Shared (shared.Heap size)) rest f = absurd f.0
-setting_reads (settings.Shared (shared.MemoryType flags heap)) rest f = absurd f.0
-setting_reads (settings.Shared (shared.Granularity bytes)) rest f = absurd f.0
 setting_reads (settings.Shared (shared.Sizes device host max_device max_host)) rest f =
     configures (settings.Shared (shared.Sizes device host max_device max_host)) (codes "sizes") (decimal device ∷ decimal host ∷ decimal max_device ∷ decimal max_host ∷ []) rest refl f (clean_text (codes "sizes") refl, (clean_decimal device f.1.0, (clean_decimal host f.1.1, (clean_decimal max_device f.1.2, (clean_decimal max_host f.1.3, tt))))) (λ e. absurd (omega arith))
 setting_reads (settings.Shared (shared.Refuse question refusal)) rest f =
     configures (settings.Shared (shared.Refuse question refusal)) (codes "refuse") (decimal question ∷ refusal_word refusal ∷ []) rest refl f (clean_text (codes "refuse") refl, (clean_decimal question f.1.1, (clean_refusal refusal f.1.2, tt))) (λ e. absurd (omega arith))
+setting_reads s rest f = absurd f.0

@@ -5,28 +5,19 @@ use Rattle.std.specs.Fmt.{decimal}
 use Rattle.std.specs.Prelude.{codes}
 use Rattle.gpu_device.specs.declared.metal.types.StorageMode.{StorageMode}
 use Rattle.gpu_run.specs.declared.metal.command.Command.{Command}
-use Rattle.gpu_run.specs.declared.metal.command.Command.TheVariants.{Alloc, Move, Buffer, AccelerationStructure, Texture, Free, Heaps, Commit, Report, Capacity, SetBudget}
+use Rattle.gpu_run.specs.declared.metal.command.Command.TheVariants.{Texture}
 use Rattle.gpu_trace_text.specs.MetalCommand as commands
 use Rattle.gpu_trace_text.specs.MetalCommand.{mode_word, FitsMode}
+use Rattle.gpu_trace_text.specs.Spelled.{Spells}
 use Rattle.gpu_block_session.specs.Words.{texts}
 
 -- four words that aren't a texture's stand in no command for one
 pub no_texture : (arguments : List (Bor (List ℕ))) (d : Bor (List ℕ))
     → ((m : StorageMode) (w h b : ℕ) → FitsMode m → w < 2 ^ 64 → h < 2 ^ 64 → b < 2 ^ 64 → (get_or arguments 1 d).now ≡ mode_word m → (get_or arguments 2 d).now ≡ decimal w
     → (get_or arguments 3 d).now ≡ decimal h → (get_or arguments 4 d).now ≢ decimal b)
-    → (c : Command) → commands.Spells (codes "texture" ∷ texts arguments) c → ⊥
+    → (c : Command) → Spells commands.words commands.Fits (codes "texture" ∷ texts arguments) c → ⊥
 no_texture (k ∷ m ∷ w ∷ h ∷ b ∷ rest) d none (Texture key t name) s =
     let f = s.fits.1 in
     let is = s.is in
     none t.storage_mode t.width t.height t.bytes_per_texel f.mode_fits f.width_fits f.height_fits f.bytes_fit (cc) (cc) (cc) (cc)
-no_texture arguments d none (Texture key t name) s = let is = s.is in cc
-no_texture arguments d none (Alloc key request) s = let is = s.is in cc
-no_texture arguments d none (Move key to request) s = let is = s.is in cc
-no_texture arguments d none (Buffer key length location name) s = let is = s.is in cc
-no_texture arguments d none (AccelerationStructure key size location name) s = let is = s.is in cc
-no_texture arguments d none (Free key) s = let is = s.is in cc
-no_texture arguments d none Heaps s = let is = s.is in cc
-no_texture arguments d none Commit s = let is = s.is in cc
-no_texture arguments d none Report s = let is = s.is in cc
-no_texture arguments d none Capacity s = let is = s.is in cc
-no_texture arguments d none (SetBudget t budget) s = let is = s.is in cc
+no_texture arguments d none c s = let is = s.is in cc

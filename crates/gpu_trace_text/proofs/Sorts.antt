@@ -74,17 +74,8 @@ of_setting (Refuse question refusal) = refl
 
 -- `report` is read as a line of block traces
 pub of_ask : (c : asks_commands.Command) → ask.Fits c → by_words (ask.words c) ≡ asks
-of_ask (asked.Alloc key request) f = refl
-of_ask (asked.Move key to request) f = refl
-of_ask (asked.Null key) f = refl
-of_ask (asked.Free key) f = refl
-of_ask (asked.Rename key name) f = refl
-of_ask (asked.Write key at bytes) f = refl
-of_ask (asked.Read key at size) f = refl
 of_ask asked.Report f = absurd f
-of_ask asked.Leaks f = refl
-of_ask asked.Capacity f = refl
-of_ask (asked.SetBudget t budget) f = refl
+of_ask c f = refl
 
 -- a reading that says something
 abbrev pub Says : Line → Type 0
@@ -113,19 +104,9 @@ blank_sort (b ∷ bs) h = rw h (remark_word (words_of bs))
 
 something : (l : Line) → Says l → sort_of l ≡ says_nothing → ⊥
 something lines.Blank s e = s
-something (lines.Says (blocks.Block side min max count granularity)) s e = cc
-something (lines.Says (blocks.Allocate key size alignment kind name)) s e = cc
-something (lines.Says (blocks.Free key)) s e = cc
-something (lines.Says blocks.Report) s e = cc
-something (lines.Configures (Heap size)) s e = cc
-something (lines.Configures (MemoryType flags heap)) s e = cc
-something (lines.Configures (Granularity bytes)) s e = cc
-something (lines.Configures (Sizes device host max_device max_host)) s e = cc
-something (lines.Configures (Refuse question refusal)) s e = cc
-something lines.New s e = cc
-something (lines.Asks c) s e = cc
-something lines.Destroy s e = cc
 something lines.Bad s e = s
+something (lines.Configures (Heap size)) s e = cc
+something l s e = cc
 
 not_blank : (line : List ℕ) (l : Line) → Says l → IsSaid line l → IsBlank line → ⊥
 not_blank line l s said blank = something l s (sym (sort_read (words_of line) l s said.reads) ∙ blank_sort line blank.remark)
@@ -134,21 +115,13 @@ not_blank line l s said blank = something l s (sym (sort_read (words_of line) l 
 
 to_sort : (stage : Stage) (l : Line) → Says l → Admits stage l → AdmitsSort stage (sort_of l)
 to_sort stage lines.Blank s a = absurd s
-to_sort stage (lines.Says c) s a = a
-to_sort stage (lines.Configures c) s a = a
-to_sort stage lines.New s a = a
-to_sort stage (lines.Asks c) s a = a
-to_sort stage lines.Destroy s a = a
 to_sort stage lines.Bad s a = absurd s
+to_sort stage l s a = a
 
 from_sort : (stage : Stage) (l : Line) → Says l → AdmitsSort stage (sort_of l) → Admits stage l
 from_sort stage lines.Blank s a = absurd s
-from_sort stage (lines.Says c) s a = a
-from_sort stage (lines.Configures c) s a = a
-from_sort stage lines.New s a = a
-from_sort stage (lines.Asks c) s a = a
-from_sort stage lines.Destroy s a = a
 from_sort stage lines.Bad s a = absurd s
+from_sort stage l s a = a
 
 said_alike : (stage : Stage) (line : List ℕ) (l m : Line) → Says l → Says m → IsSaid line l → IsSaid line m → Admits stage m → Admits stage l
 said_alike stage line l m s t said also a =

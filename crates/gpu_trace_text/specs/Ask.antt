@@ -1,5 +1,5 @@
 -- What a command of a device trace says. Each has one spelling: its words, with decimal numbers and no leading zeros.
-use Rattle.std.specs.Prelude.{◌≡◌, ℕ, ◌<◌, ◌≤◌, ◌^◌, List, [], ◌∷◌, length, Option, Some, None, codes, string_bytes}
+use Rattle.std.specs.Prelude.{ℕ, ◌<◌, ◌≤◌, ◌^◌, List, [], ◌∷◌, length, Option, Some, None, codes, string_bytes}
 use Rattle.std.specs.Fmt.{decimal}
 use Rattle.gpu_capture.specs.Words.{alloc_words, budget_words, free_words, move_words, rename_words}
 use Rattle.gpu_capture.specs.Vulkan.{vulkan_words}
@@ -46,16 +46,6 @@ pub record FitsRequest (r : Request) : Type 0 where
   pub scheme_fits : FitsScheme r.scheme
   pub name_fits : IsName (string_bytes r.name)
 
--- these words are the request's
-pub record SpellsRequest (line : List (List ℕ)) (r : Request) : Type 0 where
-  pub is : line ≡ request_words r
-  pub fits : FitsRequest r
-
--- the words are this request's, or no request's
-abbrev pub SaysRequest : List (List ℕ) → Option Request → Type 0
-SaysRequest line (Some r) = SpellsRequest line r
-SaysRequest line None = (r : Request) → SpellsRequest line r → ⊥
-
 -- 1 to 4096
 abbrev pub IsLength : ℕ → Type 0
 IsLength n = (0 < n) × (n ≤ 4096)
@@ -81,13 +71,3 @@ Fits Report = ⊥
 Fits Leaks = Unit {0}
 Fits Capacity = Unit {0}
 Fits (SetBudget t budget) = (t < 2 ^ 64) × FitsBudget budget
-
--- these words are the command's
-pub record Spells (line : List (List ℕ)) (c : Command) : Type 0 where
-  pub is : line ≡ words c
-  pub fits : Fits c
-
--- the words are this command's, or no command's
-abbrev pub Says : List (List ℕ) → Option Command → Type 0
-Says line (Some c) = Spells line c
-Says line None = (c : Command) → Spells line c → ⊥

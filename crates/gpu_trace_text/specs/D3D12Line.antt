@@ -7,6 +7,7 @@ use Rattle.gpu_trace_text.specs.Line.{new_words, destroy_words}
 use Rattle.gpu_block_session.specs.Words.{words_of}
 use Rattle.gpu_trace_text.specs.D3D12Command as command
 use Rattle.gpu_trace_text.specs.D3D12Setting as setting
+use Rattle.gpu_trace_text.specs.Spelled.{Spells}
 use Rattle.gpu_trace_text.specs.declared.d3d12.line.Line.{Line}
 use Rattle.gpu_trace_text.specs.declared.d3d12.line.Line.TheVariants as lines
 use Rattle.gpu_trace_text.specs.declared.d3d12.setting.Setting.{Setting}
@@ -17,8 +18,8 @@ asked_words = codes "asked" ∷ []
 
 -- words that say nothing
 pub record SaysNothing (words : List (List ℕ)) : Type 0 where
-  pub setting : (s : Setting) → setting.Spells words s → ⊥
-  pub command : (c : Command) → command.Spells words c → ⊥
+  pub setting : (s : Setting) → Spells setting.words setting.Fits words s → ⊥
+  pub command : (c : Command) → Spells command.words command.Fits words c → ⊥
   pub new : words ≢ new_words
   pub asked : words ≢ asked_words
   pub destroy : words ≢ destroy_words
@@ -34,9 +35,9 @@ ReadsAlone words _ = ⊥
 -- what words say
 abbrev pub Reads : List (List ℕ) → Line → Type 0
 Reads words lines.Blank = ⊥
-Reads words (lines.Configures s) = setting.Spells words s
+Reads words (lines.Configures s) = Spells setting.words setting.Fits words s
 Reads words lines.New = words ≡ new_words
-Reads words (lines.Asks c) = command.Spells words c
+Reads words (lines.Asks c) = Spells command.words command.Fits words c
 Reads words lines.Asked = words ≡ asked_words
 Reads words lines.Destroy = words ≡ destroy_words
 Reads words lines.Bad = SaysNothing words

@@ -1,5 +1,5 @@
 -- What a configuration line of a DirectX 12 trace says. Each has one spelling.
-use Rattle.std.specs.Prelude.{◌≡◌, ℕ, ℤ, List, [], ◌∷◌, Option, Some, None, Result, Ok, Err, codes, FitsSigned}
+use Rattle.std.specs.Prelude.{ℕ, ℤ, List, [], ◌∷◌, Result, Ok, Err, codes, FitsSigned}
 use Rattle.std.specs.Int.{w32}
 use Rattle.std.specs.Fmt.{signed_decimal}
 use Rattle.gpu_device.specs.declared.d3d12.types.ResourceHeapTier.{ResourceHeapTier}
@@ -38,13 +38,3 @@ abbrev pub Fits : Setting → Type 0
 Fits (Tier tier) = FitsTier tier
 Fits (Interface version) = Unit {0}
 Fits (Shared s) = IsShared s × settings.Fits s
-
--- these words are the setting's
-pub record Spells (line : List (List ℕ)) (s : Setting) : Type 0 where
-  pub is : line ≡ words s
-  pub fits : Fits s
-
--- the words are this setting's, or no setting's
-abbrev pub Says : List (List ℕ) → Option Setting → Type 0
-Says line (Some s) = Spells line s
-Says line None = (s : Setting) → Spells line s → ⊥

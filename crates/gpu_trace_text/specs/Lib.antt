@@ -3,6 +3,7 @@ pub mod Configuration
 pub mod Stage
 pub mod BlockOrDevice
 pub mod Hex
+pub mod Spelled
 pub mod Setting
 pub mod Ask
 pub mod DeviceReply

@@ -11,6 +11,7 @@ use Rattle.gpu_block_session.specs.BlockWords.{Spells}
 use Rattle.gpu_block_session.specs.Line.{IsBlank}
 use Rattle.gpu_trace_text.specs.Ask as ask
 use Rattle.gpu_trace_text.specs.Setting as setting
+use Rattle.gpu_trace_text.specs.Spelled as spelled
 
 abbrev pub new_words : List (List ℕ)
 new_words = codes "new" ∷ []
@@ -21,8 +22,8 @@ destroy_words = codes "destroy" ∷ []
 -- words that say nothing
 pub record SaysNothing (words : List (List ℕ)) : Type 0 where
   pub command : (c : Command) → Spells words c → ⊥
-  pub setting : (s : Setting) → setting.Spells words s → ⊥
-  pub ask : (c : asks.Command) → ask.Spells words c → ⊥
+  pub setting : (s : Setting) → spelled.Spells setting.words setting.Fits words s → ⊥
+  pub ask : (c : asks.Command) → spelled.Spells ask.words ask.Fits words c → ⊥
   pub new : words ≢ new_words
   pub destroy : words ≢ destroy_words
 
@@ -37,9 +38,9 @@ ReadsAlone words _ = ⊥
 abbrev pub Reads : List (List ℕ) → Line → Type 0
 Reads words lines.Blank = ⊥
 Reads words (lines.Says c) = Spells words c
-Reads words (lines.Configures s) = setting.Spells words s
+Reads words (lines.Configures s) = spelled.Spells setting.words setting.Fits words s
 Reads words lines.New = words ≡ new_words
-Reads words (lines.Asks c) = ask.Spells words c
+Reads words (lines.Asks c) = spelled.Spells ask.words ask.Fits words c
 Reads words lines.Destroy = words ≡ destroy_words
 Reads words lines.Bad = SaysNothing words
 

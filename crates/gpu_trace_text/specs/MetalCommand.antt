@@ -1,5 +1,5 @@
 -- What a command of a Metal trace says. Each has one spelling: its words, with decimal numbers and no leading zeros.
-use Rattle.std.specs.Prelude.{◌≡◌, ℕ, ◌<◌, ◌^◌, List, [], ◌∷◌, ◌++◌, Option, Some, None, codes, string_bytes}
+use Rattle.std.specs.Prelude.{ℕ, ◌<◌, ◌^◌, List, [], ◌∷◌, ◌++◌, codes, string_bytes}
 use Rattle.std.specs.Fmt.{decimal}
 use Rattle.gpu_device.specs.declared.metal.types.StorageMode.{StorageMode}
 use Rattle.gpu_device.specs.declared.metal.types.StorageMode.TheVariants.{Shared, Managed, Private, Memoryless, Other}
@@ -45,16 +45,6 @@ pub record FitsRequest (r : Request) : Type 0 where
   pub alignment_fits : r.alignment < 2 ^ 64
   pub name_fits : IsName (string_bytes r.name)
 
--- these words are the request's
-pub record SpellsRequest (line : List (List ℕ)) (r : Request) : Type 0 where
-  pub is : line ≡ request_words r
-  pub fits : FitsRequest r
-
--- the words are this request's, or no request's
-abbrev pub SaysRequest : List (List ℕ) → Option Request → Type 0
-SaysRequest line (Some r) = SpellsRequest line r
-SaysRequest line None = (r : Request) → SpellsRequest line r → ⊥
-
 -- a mode told by its number has 32 bits
 abbrev pub FitsMode : StorageMode → Type 0
 FitsMode Shared = Unit {0}
@@ -83,13 +73,3 @@ Fits Commit = Unit {0}
 Fits Report = Unit {0}
 Fits Capacity = Unit {0}
 Fits (SetBudget t budget) = (t < 2 ^ 64) × FitsBudget budget
-
--- these words are the command's
-pub record Spells (line : List (List ℕ)) (c : Command) : Type 0 where
-  pub is : line ≡ words c
-  pub fits : Fits c
-
--- the words are this command's, or no command's
-abbrev pub Says : List (List ℕ) → Option Command → Type 0
-Says line (Some c) = Spells line c
-Says line None = (c : Command) → Spells line c → ⊥

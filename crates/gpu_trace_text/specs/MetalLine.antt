@@ -7,6 +7,7 @@ use Rattle.gpu_trace_text.specs.Line.{new_words, destroy_words}
 use Rattle.gpu_block_session.specs.Words.{words_of}
 use Rattle.gpu_trace_text.specs.MetalCommand as command
 use Rattle.gpu_trace_text.specs.MetalSetting as setting
+use Rattle.gpu_trace_text.specs.Spelled.{Spells}
 use Rattle.gpu_trace_text.specs.declared.metal.line.Line.{Line}
 use Rattle.gpu_trace_text.specs.declared.metal.line.Line.TheVariants as lines
 use Rattle.gpu_trace_text.specs.declared.metal.line.Look.{Look}
@@ -21,8 +22,8 @@ look_words Asked = codes "asked" ∷ []
 
 -- words that say nothing
 pub record SaysNothing (words : List (List ℕ)) : Type 0 where
-  pub setting : (s : Setting) → setting.Spells words s → ⊥
-  pub command : (c : Command) → command.Spells words c → ⊥
+  pub setting : (s : Setting) → Spells setting.words setting.Fits words s → ⊥
+  pub command : (c : Command) → Spells command.words command.Fits words c → ⊥
   pub new : words ≢ new_words
   pub look : (l : Look) → words ≢ look_words l
   pub destroy : words ≢ destroy_words
@@ -38,9 +39,9 @@ ReadsAlone words _ = ⊥
 -- what words say
 abbrev pub Reads : List (List ℕ) → Line → Type 0
 Reads words lines.Blank = ⊥
-Reads words (lines.Configures s) = setting.Spells words s
+Reads words (lines.Configures s) = Spells setting.words setting.Fits words s
 Reads words lines.New = words ≡ new_words
-Reads words (lines.Asks c) = command.Spells words c
+Reads words (lines.Asks c) = Spells command.words command.Fits words c
 Reads words (lines.Looks l) = words ≡ look_words l
 Reads words lines.Destroy = words ≡ destroy_words
 Reads words lines.Bad = SaysNothing words

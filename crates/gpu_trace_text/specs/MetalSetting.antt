@@ -1,5 +1,5 @@
 -- What a configuration line of a Metal trace says. Each has one spelling.
-use Rattle.std.specs.Prelude.{◌≡◌, ℕ, List, [], ◌∷◌, Option, Some, None, codes}
+use Rattle.std.specs.Prelude.{ℕ, List, [], ◌∷◌, codes}
 use Rattle.gpu_capture.specs.Metal.{yes_word, residency_words}
 use Rattle.gpu_trace_text.specs.Setting as settings
 use Rattle.gpu_trace_text.specs.Setting.{IsShared}
@@ -17,13 +17,3 @@ abbrev pub Fits : Setting → Type 0
 Fits (Sets b) = Unit {0}
 Fits (Residency b) = Unit {0}
 Fits (Shared s) = IsShared s × settings.Fits s
-
--- these words are the setting's
-pub record Spells (line : List (List ℕ)) (s : Setting) : Type 0 where
-  pub is : line ≡ words s
-  pub fits : Fits s
-
--- the words are this setting's, or no setting's
-abbrev pub Says : List (List ℕ) → Option Setting → Type 0
-Says line (Some s) = Spells line s
-Says line None = (s : Setting) → Spells line s → ⊥

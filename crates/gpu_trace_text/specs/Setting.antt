@@ -1,5 +1,5 @@
 -- What a configuration line of a device trace says. Each has one spelling: its words, with decimal numbers and no leading zeros.
-use Rattle.std.specs.Prelude.{◌≡◌, ℕ, ◌<◌, ◌^◌, List, Option, Some, None, FitsSigned}
+use Rattle.std.specs.Prelude.{ℕ, ◌<◌, ◌^◌, List, FitsSigned}
 use Rattle.std.specs.Int.{w32}
 use Rattle.gpu_values.specs.Sizes.{Sizes, only_size, with_largest}
 use Rattle.gpu_device.specs.declared.refusal.Refusal.{Refusal}
@@ -27,16 +27,6 @@ Fits (MemoryType flags heap) = (flags < 2 ^ 32) × (heap < 2 ^ 32)
 Fits (Granularity bytes) = bytes < 2 ^ 64
 Fits (BlockSizes device host max_device max_host) = (device < 2 ^ 64) × (host < 2 ^ 64) × (max_device < 2 ^ 64) × (max_host < 2 ^ 64)
 Fits (Refuse question refusal) = (0 < question) × (question < 2 ^ 64) × FitsRefusal refusal
-
--- these words are the setting's
-pub record Spells (line : List (List ℕ)) (s : Setting) : Type 0 where
-  pub is : line ≡ words s
-  pub fits : Fits s
-
--- the words are this setting's, or no setting's
-abbrev pub Says : List (List ℕ) → Option Setting → Type 0
-Says line (Some s) = Spells line s
-Says line None = (s : Setting) → Spells line s → ⊥
 
 -- the sizes of blocks that a line stands for: on each side they begin at one size and double up to another
 abbrev pub sizes_of : (device host max_device max_host : ℕ) → Sizes

@@ -2,7 +2,8 @@
 
 ghost use Rattle.std.specs.Prelude.{◌≡◌, ◌∷◌, IfOk, codes};
 ghost use Rattle.gpu_block_session.specs.Words.{texts};
-ghost use Rattle.gpu_trace_text.specs.D3D12Command.{SaysRequest, Says};
+ghost use Rattle.gpu_trace_text.specs.D3D12Command.{request_words, words, Fits, FitsRequest};
+ghost use Rattle.gpu_trace_text.specs.Spelled.{Says};
 
 use crate::d3d12::resource::{category_of, wanted_of};
 use crate::device::ask::{budget_of, location_of};
@@ -12,7 +13,7 @@ use std::alloc::{AllocError, Global};
 
 /// The request that these words say, or `None` where they say none. Only host memory can be refused.
 fn request_of(alloc: Global, arguments: &[&str]) -> Result<Option<Request>, AllocError>
-    ensures { IfOk result (SaysRequest (texts arguments.now)) }
+    ensures { IfOk result (Says request_words FitsRequest (texts arguments.now)) }
 {
     let [size, alignment, location, category, name] = arguments else {
         return Ok(None);
@@ -42,7 +43,7 @@ fn request_of(alloc: Global, arguments: &[&str]) -> Result<Option<Request>, Allo
 }
 
 fn alloc(alloc: Global, arguments: &[&str]) -> Result<Option<Command>, AllocError>
-    ensures { IfOk result (λ found. Says (codes "alloc" ∷ texts arguments.now) found) }
+    ensures { IfOk result (λ found. Says words Fits (codes "alloc" ∷ texts arguments.now) found) }
 {
     let [key, rest @ ..] = arguments else {
         return Ok(None);
@@ -57,7 +58,7 @@ fn alloc(alloc: Global, arguments: &[&str]) -> Result<Option<Command>, AllocErro
 }
 
 fn second_place(alloc: Global, arguments: &[&str]) -> Result<Option<Command>, AllocError>
-    ensures { IfOk result (λ found. Says (codes "move" ∷ texts arguments.now) found) }
+    ensures { IfOk result (λ found. Says words Fits (codes "move" ∷ texts arguments.now) found) }
 {
     let [key, to, rest @ ..] = arguments else {
         return Ok(None);
@@ -75,7 +76,7 @@ fn second_place(alloc: Global, arguments: &[&str]) -> Result<Option<Command>, Al
 }
 
 fn free(arguments: &[&str]) -> Option<Command>
-    ensures { Says (codes "free" ∷ texts arguments.now) result }
+    ensures { Says words Fits (codes "free" ∷ texts arguments.now) result }
 {
     let [key] = arguments else {
         return None;
@@ -85,7 +86,7 @@ fn free(arguments: &[&str]) -> Option<Command>
 }
 
 fn rename(alloc: Global, arguments: &[&str]) -> Result<Option<Command>, AllocError>
-    ensures { IfOk result (λ found. Says (codes "rename" ∷ texts arguments.now) found) }
+    ensures { IfOk result (λ found. Says words Fits (codes "rename" ∷ texts arguments.now) found) }
 {
     let [key, name] = arguments else {
         return Ok(None);
@@ -100,7 +101,7 @@ fn rename(alloc: Global, arguments: &[&str]) -> Result<Option<Command>, AllocErr
 }
 
 fn create(alloc: Global, arguments: &[&str]) -> Result<Option<Command>, AllocError>
-    ensures { IfOk result (λ found. Says (codes "create" ∷ texts arguments.now) found) }
+    ensures { IfOk result (λ found. Says words Fits (codes "create" ∷ texts arguments.now) found) }
 {
     let [key, rest @ ..] = arguments else {
         return Ok(None);
@@ -115,7 +116,7 @@ fn create(alloc: Global, arguments: &[&str]) -> Result<Option<Command>, AllocErr
 }
 
 fn release(arguments: &[&str]) -> Option<Command>
-    ensures { Says (codes "release" ∷ texts arguments.now) result }
+    ensures { Says words Fits (codes "release" ∷ texts arguments.now) result }
 {
     let [key] = arguments else {
         return None;
@@ -125,7 +126,7 @@ fn release(arguments: &[&str]) -> Option<Command>
 }
 
 fn leaks(arguments: &[&str]) -> Option<Command>
-    ensures { Says (codes "leaks" ∷ texts arguments.now) result }
+    ensures { Says words Fits (codes "leaks" ∷ texts arguments.now) result }
 {
     let [] = arguments else {
         return None;
@@ -134,7 +135,7 @@ fn leaks(arguments: &[&str]) -> Option<Command>
 }
 
 fn report(arguments: &[&str]) -> Option<Command>
-    ensures { Says (codes "report" ∷ texts arguments.now) result }
+    ensures { Says words Fits (codes "report" ∷ texts arguments.now) result }
 {
     let [] = arguments else {
         return None;
@@ -143,7 +144,7 @@ fn report(arguments: &[&str]) -> Option<Command>
 }
 
 fn capacity(arguments: &[&str]) -> Option<Command>
-    ensures { Says (codes "capacity" ∷ texts arguments.now) result }
+    ensures { Says words Fits (codes "capacity" ∷ texts arguments.now) result }
 {
     let [] = arguments else {
         return None;
@@ -152,7 +153,7 @@ fn capacity(arguments: &[&str]) -> Option<Command>
 }
 
 fn committed(arguments: &[&str]) -> Option<Command>
-    ensures { Says (codes "committed" ∷ texts arguments.now) result }
+    ensures { Says words Fits (codes "committed" ∷ texts arguments.now) result }
 {
     let [memory_type] = arguments else {
         return None;
@@ -162,7 +163,7 @@ fn committed(arguments: &[&str]) -> Option<Command>
 }
 
 fn budget(arguments: &[&str]) -> Option<Command>
-    ensures { Says (codes "budget" ∷ texts arguments.now) result }
+    ensures { Says words Fits (codes "budget" ∷ texts arguments.now) result }
 {
     let [memory_type, budget] = arguments else {
         return None;
@@ -181,7 +182,7 @@ pub(crate) fn said_command(
     verb: &str,
     arguments: &[&str],
 ) -> Result<Option<Command>, AllocError>
-    ensures { IfOk result (λ found. Says (verb.now ∷ texts arguments.now) found) }
+    ensures { IfOk result (λ found. Says words Fits (verb.now ∷ texts arguments.now) found) }
 {
     match verb {
         "alloc" => alloc(global, arguments),

@@ -2,7 +2,8 @@
 
 ghost use Rattle.std.specs.Prelude.{◌≡◌, ◌≢◌, [], ◌∷◌, IfOk, MatchOption, codes};
 ghost use Rattle.gpu_block_session.specs.Words.{texts};
-ghost use Rattle.gpu_trace_text.specs.D3D12Setting.{version_word, Says};
+ghost use Rattle.gpu_trace_text.specs.D3D12Setting.{version_word, words, Fits};
+ghost use Rattle.gpu_trace_text.specs.Spelled.{Says};
 ghost use Rattle.gpu_trace_text.specs.declared.d3d12.setting.Version.{Version};
 
 use crate::device::setting;
@@ -34,7 +35,7 @@ pub enum Setting {
 }
 
 fn told_tier(word: &str) -> Option<Setting>
-    ensures { Says (codes "tier" ∷ word.now ∷ []) result }
+    ensures { Says words Fits (codes "tier" ∷ word.now ∷ []) result }
 {
     match word {
         "1" => Some(Setting::Tier(Ok(ResourceHeapTier::Tier1))),
@@ -44,7 +45,8 @@ fn told_tier(word: &str) -> Option<Setting>
 }
 
 fn refused_tier(alloc: Global, word: &str, number: &str) -> Result<Option<Setting>, AllocError>
-    ensures { IfOk result (λ found. Says (codes "tier" ∷ word.now ∷ number.now ∷ []) found) }
+    ensures { IfOk result (λ found. Says words Fits
+        (codes "tier" ∷ word.now ∷ number.now ∷ []) found) }
 {
     if word != "refused" {
         return Ok(None);
@@ -56,7 +58,7 @@ fn refused_tier(alloc: Global, word: &str, number: &str) -> Result<Option<Settin
 }
 
 fn tier(alloc: Global, arguments: &[&str]) -> Result<Option<Setting>, AllocError>
-    ensures { IfOk result (λ found. Says (codes "tier" ∷ texts arguments.now) found) }
+    ensures { IfOk result (λ found. Says words Fits (codes "tier" ∷ texts arguments.now) found) }
 {
     match arguments {
         [word] => Ok(told_tier(word)),
@@ -78,7 +80,7 @@ fn version_of(word: &str) -> Option<Version>
 }
 
 fn newest(arguments: &[&str]) -> Option<Setting>
-    ensures { Says (codes "version" ∷ texts arguments.now) result }
+    ensures { Says words Fits (codes "version" ∷ texts arguments.now) result }
 {
     let [word] = arguments else {
         return None;
@@ -89,7 +91,7 @@ fn newest(arguments: &[&str]) -> Option<Setting>
 
 #[tactic(auto, using(crate::proofs::Settings::sizes_shared))]
 fn sizes(alloc: Global, arguments: &[&str]) -> Result<Option<Setting>, AllocError>
-    ensures { IfOk result (λ found. Says (codes "sizes" ∷ texts arguments.now) found) }
+    ensures { IfOk result (λ found. Says words Fits (codes "sizes" ∷ texts arguments.now) found) }
 {
     match setting_of(alloc, "sizes", arguments)? {
         Some(setting) => Ok(Some(Setting::Shared(setting))),
@@ -99,7 +101,7 @@ fn sizes(alloc: Global, arguments: &[&str]) -> Result<Option<Setting>, AllocErro
 
 #[tactic(auto, using(crate::proofs::Settings::refuse_shared))]
 fn refuse(alloc: Global, arguments: &[&str]) -> Result<Option<Setting>, AllocError>
-    ensures { IfOk result (λ found. Says (codes "refuse" ∷ texts arguments.now) found) }
+    ensures { IfOk result (λ found. Says words Fits (codes "refuse" ∷ texts arguments.now) found) }
 {
     match setting_of(alloc, "refuse", arguments)? {
         Some(setting) => Ok(Some(Setting::Shared(setting))),
@@ -113,7 +115,7 @@ pub(crate) fn said_setting(
     verb: &str,
     arguments: &[&str],
 ) -> Result<Option<Setting>, AllocError>
-    ensures { IfOk result (λ found. Says (verb.now ∷ texts arguments.now) found) }
+    ensures { IfOk result (λ found. Says words Fits (verb.now ∷ texts arguments.now) found) }
 {
     match verb {
         "tier" => tier(alloc, arguments),

@@ -8,7 +8,8 @@ ghost use Rattle.gpu_trace_text.specs.Hex.{hex, AreBytes};
 ghost use Rattle.gpu_block_session.specs.Words.{texts};
 ghost use Rattle.gpu_capture.specs.Words.{location_word, budget_word};
 ghost use Rattle.gpu_capture.specs.Vulkan.{linear_word, scheme_word};
-ghost use Rattle.gpu_trace_text.specs.Ask.{FitsScheme, FitsBudget, IsLength, IsPayload, SaysRequest, Says};
+ghost use Rattle.gpu_trace_text.specs.Ask.{request_words, words, Fits, FitsBudget, FitsRequest, FitsScheme, IsLength, IsPayload};
+ghost use Rattle.gpu_trace_text.specs.Spelled.{Says};
 
 use crate::hex;
 use gpu_block_session::words::{name_of, number, small_number};
@@ -81,7 +82,7 @@ fn placed(
     requirements: MemoryRequirements,
     arguments: &[&str],
 ) -> Result<Option<Request>, AllocError>
-    ensures { IfOk result (SaysRequest
+    ensures { IfOk result (Says request_words FitsRequest
         (decimal requirements.size ∷ decimal requirements.alignment
         ∷ decimal requirements.memory_type_bits ∷ texts arguments.now)) }
 {
@@ -111,7 +112,7 @@ fn placed(
 
 /// The request that these words say, or `None` where they say none. Only host memory can be refused.
 fn request_of(alloc: Global, arguments: &[&str]) -> Result<Option<Request>, AllocError>
-    ensures { IfOk result (SaysRequest (texts arguments.now)) }
+    ensures { IfOk result (Says request_words FitsRequest (texts arguments.now)) }
 {
     let [size, alignment, bits, rest @ ..] = arguments else {
         return Ok(None);
@@ -123,7 +124,7 @@ fn request_of(alloc: Global, arguments: &[&str]) -> Result<Option<Request>, Allo
 }
 
 fn alloc(alloc: Global, arguments: &[&str]) -> Result<Option<Command>, AllocError>
-    ensures { IfOk result (λ found. Says (codes "alloc" ∷ texts arguments.now) found) }
+    ensures { IfOk result (λ found. Says words Fits (codes "alloc" ∷ texts arguments.now) found) }
 {
     let [key, rest @ ..] = arguments else {
         return Ok(None);
@@ -138,7 +139,7 @@ fn alloc(alloc: Global, arguments: &[&str]) -> Result<Option<Command>, AllocErro
 }
 
 fn second_place(alloc: Global, arguments: &[&str]) -> Result<Option<Command>, AllocError>
-    ensures { IfOk result (λ found. Says (codes "move" ∷ texts arguments.now) found) }
+    ensures { IfOk result (λ found. Says words Fits (codes "move" ∷ texts arguments.now) found) }
 {
     let [key, to, rest @ ..] = arguments else {
         return Ok(None);
@@ -156,7 +157,7 @@ fn second_place(alloc: Global, arguments: &[&str]) -> Result<Option<Command>, Al
 }
 
 fn null(arguments: &[&str]) -> Option<Command>
-    ensures { Says (codes "null" ∷ texts arguments.now) result }
+    ensures { Says words Fits (codes "null" ∷ texts arguments.now) result }
 {
     let [key] = arguments else {
         return None;
@@ -166,7 +167,7 @@ fn null(arguments: &[&str]) -> Option<Command>
 }
 
 fn free(arguments: &[&str]) -> Option<Command>
-    ensures { Says (codes "free" ∷ texts arguments.now) result }
+    ensures { Says words Fits (codes "free" ∷ texts arguments.now) result }
 {
     let [key] = arguments else {
         return None;
@@ -176,7 +177,7 @@ fn free(arguments: &[&str]) -> Option<Command>
 }
 
 fn rename(alloc: Global, arguments: &[&str]) -> Result<Option<Command>, AllocError>
-    ensures { IfOk result (λ found. Says (codes "rename" ∷ texts arguments.now) found) }
+    ensures { IfOk result (λ found. Says words Fits (codes "rename" ∷ texts arguments.now) found) }
 {
     let [key, name] = arguments else {
         return Ok(None);
@@ -221,7 +222,7 @@ fn payload(alloc: Global, word: &str) -> Result<Option<Vec<u8>>, AllocError>
 }
 
 fn write(alloc: Global, arguments: &[&str]) -> Result<Option<Command>, AllocError>
-    ensures { IfOk result (λ found. Says (codes "write" ∷ texts arguments.now) found) }
+    ensures { IfOk result (λ found. Says words Fits (codes "write" ∷ texts arguments.now) found) }
 {
     let [key, at, digits] = arguments else {
         return Ok(None);
@@ -247,7 +248,7 @@ fn size_of(word: &str) -> Option<u64>
 }
 
 fn read(arguments: &[&str]) -> Option<Command>
-    ensures { Says (codes "read" ∷ texts arguments.now) result }
+    ensures { Says words Fits (codes "read" ∷ texts arguments.now) result }
 {
     let [key, at, size] = arguments else {
         return None;
@@ -259,7 +260,7 @@ fn read(arguments: &[&str]) -> Option<Command>
 }
 
 fn leaks(arguments: &[&str]) -> Option<Command>
-    ensures { Says (codes "leaks" ∷ texts arguments.now) result }
+    ensures { Says words Fits (codes "leaks" ∷ texts arguments.now) result }
 {
     let [] = arguments else {
         return None;
@@ -268,7 +269,7 @@ fn leaks(arguments: &[&str]) -> Option<Command>
 }
 
 fn capacity(arguments: &[&str]) -> Option<Command>
-    ensures { Says (codes "capacity" ∷ texts arguments.now) result }
+    ensures { Says words Fits (codes "capacity" ∷ texts arguments.now) result }
 {
     let [] = arguments else {
         return None;
@@ -289,7 +290,7 @@ pub fn budget_of(word: &str) -> Option<Option<u64>>
 }
 
 fn budget(arguments: &[&str]) -> Option<Command>
-    ensures { Says (codes "budget" ∷ texts arguments.now) result }
+    ensures { Says words Fits (codes "budget" ∷ texts arguments.now) result }
 {
     let [memory_type, budget] = arguments else {
         return None;
@@ -308,7 +309,7 @@ pub fn command_of(
     verb: &str,
     arguments: &[&str],
 ) -> Result<Option<Command>, AllocError>
-    ensures { IfOk result (λ found. Says (verb.now ∷ texts arguments.now) found) }
+    ensures { IfOk result (λ found. Says words Fits (verb.now ∷ texts arguments.now) found) }
 {
     match verb {
         "alloc" => alloc(global, arguments),

@@ -6,7 +6,8 @@ ghost use Rattle.gpu_values.specs.declared.memory_location.MemoryLocation.{Memor
 ghost use Rattle.gpu_device.specs.declared.metal.types.StorageMode.{StorageMode};
 ghost use Rattle.gpu_capture.specs.Words.{location_word};
 ghost use Rattle.gpu_block_session.specs.Words.{texts};
-ghost use Rattle.gpu_trace_text.specs.MetalCommand.{mode_word, FitsMode, SaysRequest, Says};
+ghost use Rattle.gpu_trace_text.specs.MetalCommand.{mode_word, request_words, words, Fits, FitsMode, FitsRequest};
+ghost use Rattle.gpu_trace_text.specs.Spelled.{Says};
 
 use crate::device::ask::{budget_of, location_of};
 use gpu_block_session::words::{name_of, number, small_number};
@@ -33,7 +34,7 @@ fn mode_of(word: &str) -> Option<StorageMode>
 
 /// The request that these words say, or `None` where they say none. Only host memory can be refused.
 fn request_of(alloc: Global, arguments: &[&str]) -> Result<Option<Request>, AllocError>
-    ensures { IfOk result (SaysRequest (texts arguments.now)) }
+    ensures { IfOk result (Says request_words FitsRequest (texts arguments.now)) }
 {
     let [size, alignment, location, name] = arguments else {
         return Ok(None);
@@ -59,7 +60,7 @@ fn request_of(alloc: Global, arguments: &[&str]) -> Result<Option<Request>, Allo
 }
 
 fn alloc(alloc: Global, arguments: &[&str]) -> Result<Option<Command>, AllocError>
-    ensures { IfOk result (λ found. Says (codes "alloc" ∷ texts arguments.now) found) }
+    ensures { IfOk result (λ found. Says words Fits (codes "alloc" ∷ texts arguments.now) found) }
 {
     let [key, rest @ ..] = arguments else {
         return Ok(None);
@@ -74,7 +75,7 @@ fn alloc(alloc: Global, arguments: &[&str]) -> Result<Option<Command>, AllocErro
 }
 
 fn second_place(alloc: Global, arguments: &[&str]) -> Result<Option<Command>, AllocError>
-    ensures { IfOk result (λ found. Says (codes "move" ∷ texts arguments.now) found) }
+    ensures { IfOk result (λ found. Says words Fits (codes "move" ∷ texts arguments.now) found) }
 {
     let [key, to, rest @ ..] = arguments else {
         return Ok(None);
@@ -92,7 +93,7 @@ fn second_place(alloc: Global, arguments: &[&str]) -> Result<Option<Command>, Al
 }
 
 fn buffer(alloc: Global, arguments: &[&str]) -> Result<Option<Command>, AllocError>
-    ensures { IfOk result (λ found. Says (codes "buffer" ∷ texts arguments.now) found) }
+    ensures { IfOk result (λ found. Says words Fits (codes "buffer" ∷ texts arguments.now) found) }
 {
     let [key, length, location, name] = arguments else {
         return Ok(None);
@@ -118,7 +119,8 @@ fn buffer(alloc: Global, arguments: &[&str]) -> Result<Option<Command>, AllocErr
 }
 
 fn structure(alloc: Global, arguments: &[&str]) -> Result<Option<Command>, AllocError>
-    ensures { IfOk result (λ found. Says (codes "structure" ∷ texts arguments.now) found) }
+    ensures { IfOk result (λ found. Says words Fits
+        (codes "structure" ∷ texts arguments.now) found) }
 {
     let [key, size, location, name] = arguments else {
         return Ok(None);
@@ -165,7 +167,7 @@ fn texture_of(mode: &str, width: &str, height: &str, bytes: &str) -> Option<Text
 }
 
 fn texture(alloc: Global, arguments: &[&str]) -> Result<Option<Command>, AllocError>
-    ensures { IfOk result (λ found. Says (codes "texture" ∷ texts arguments.now) found) }
+    ensures { IfOk result (λ found. Says words Fits (codes "texture" ∷ texts arguments.now) found) }
 {
     let [key, mode, width, height, bytes, name] = arguments else {
         return Ok(None);
@@ -183,7 +185,7 @@ fn texture(alloc: Global, arguments: &[&str]) -> Result<Option<Command>, AllocEr
 }
 
 fn free(arguments: &[&str]) -> Option<Command>
-    ensures { Says (codes "free" ∷ texts arguments.now) result }
+    ensures { Says words Fits (codes "free" ∷ texts arguments.now) result }
 {
     let [key] = arguments else {
         return None;
@@ -193,7 +195,7 @@ fn free(arguments: &[&str]) -> Option<Command>
 }
 
 fn budget(arguments: &[&str]) -> Option<Command>
-    ensures { Says (codes "budget" ∷ texts arguments.now) result }
+    ensures { Says words Fits (codes "budget" ∷ texts arguments.now) result }
 {
     let [memory_type, budget] = arguments else {
         return None;
@@ -207,7 +209,7 @@ fn budget(arguments: &[&str]) -> Option<Command>
 }
 
 fn heaps(arguments: &[&str]) -> Option<Command>
-    ensures { Says (codes "heaps" ∷ texts arguments.now) result }
+    ensures { Says words Fits (codes "heaps" ∷ texts arguments.now) result }
 {
     let [] = arguments else {
         return None;
@@ -216,7 +218,7 @@ fn heaps(arguments: &[&str]) -> Option<Command>
 }
 
 fn commit(arguments: &[&str]) -> Option<Command>
-    ensures { Says (codes "commit" ∷ texts arguments.now) result }
+    ensures { Says words Fits (codes "commit" ∷ texts arguments.now) result }
 {
     let [] = arguments else {
         return None;
@@ -225,7 +227,7 @@ fn commit(arguments: &[&str]) -> Option<Command>
 }
 
 fn report(arguments: &[&str]) -> Option<Command>
-    ensures { Says (codes "report" ∷ texts arguments.now) result }
+    ensures { Says words Fits (codes "report" ∷ texts arguments.now) result }
 {
     let [] = arguments else {
         return None;
@@ -234,7 +236,7 @@ fn report(arguments: &[&str]) -> Option<Command>
 }
 
 fn capacity(arguments: &[&str]) -> Option<Command>
-    ensures { Says (codes "capacity" ∷ texts arguments.now) result }
+    ensures { Says words Fits (codes "capacity" ∷ texts arguments.now) result }
 {
     let [] = arguments else {
         return None;
@@ -248,7 +250,7 @@ pub(crate) fn said_command(
     verb: &str,
     arguments: &[&str],
 ) -> Result<Option<Command>, AllocError>
-    ensures { IfOk result (λ found. Says (verb.now ∷ texts arguments.now) found) }
+    ensures { IfOk result (λ found. Says words Fits (verb.now ∷ texts arguments.now) found) }
 {
     match verb {
         "alloc" => alloc(global, arguments),

@@ -3,7 +3,8 @@
 ghost use Rattle.std.specs.Prelude.{◌≡◌, ◌≢◌, ◌∷◌, Bool, IfOk, MatchOption, codes};
 ghost use Rattle.gpu_block_session.specs.Words.{texts};
 ghost use Rattle.gpu_capture.specs.Metal.{yes_word};
-ghost use Rattle.gpu_trace_text.specs.MetalSetting.{Says};
+ghost use Rattle.gpu_trace_text.specs.MetalSetting.{words, Fits};
+ghost use Rattle.gpu_trace_text.specs.Spelled.{Says};
 
 use crate::device::setting;
 use crate::device::setting::setting_of;
@@ -31,7 +32,7 @@ fn is_yes(word: &str) -> Option<bool>
 }
 
 fn sets(arguments: &[&str]) -> Option<Setting>
-    ensures { Says (codes "sets" ∷ texts arguments.now) result }
+    ensures { Says words Fits (codes "sets" ∷ texts arguments.now) result }
 {
     let [word] = arguments else {
         return None;
@@ -41,7 +42,7 @@ fn sets(arguments: &[&str]) -> Option<Setting>
 }
 
 fn residency(arguments: &[&str]) -> Option<Setting>
-    ensures { Says (codes "residency" ∷ texts arguments.now) result }
+    ensures { Says words Fits (codes "residency" ∷ texts arguments.now) result }
 {
     let [word] = arguments else {
         return None;
@@ -52,7 +53,7 @@ fn residency(arguments: &[&str]) -> Option<Setting>
 
 #[tactic(auto, using(crate::proofs::Settings::sizes_shared))]
 fn sizes(alloc: Global, arguments: &[&str]) -> Result<Option<Setting>, AllocError>
-    ensures { IfOk result (λ found. Says (codes "sizes" ∷ texts arguments.now) found) }
+    ensures { IfOk result (λ found. Says words Fits (codes "sizes" ∷ texts arguments.now) found) }
 {
     match setting_of(alloc, "sizes", arguments)? {
         Some(setting) => Ok(Some(Setting::Shared(setting))),
@@ -62,7 +63,7 @@ fn sizes(alloc: Global, arguments: &[&str]) -> Result<Option<Setting>, AllocErro
 
 #[tactic(auto, using(crate::proofs::Settings::refuse_shared))]
 fn refuse(alloc: Global, arguments: &[&str]) -> Result<Option<Setting>, AllocError>
-    ensures { IfOk result (λ found. Says (codes "refuse" ∷ texts arguments.now) found) }
+    ensures { IfOk result (λ found. Says words Fits (codes "refuse" ∷ texts arguments.now) found) }
 {
     match setting_of(alloc, "refuse", arguments)? {
         Some(setting) => Ok(Some(Setting::Shared(setting))),
@@ -76,7 +77,7 @@ pub(crate) fn said_setting(
     verb: &str,
     arguments: &[&str],
 ) -> Result<Option<Setting>, AllocError>
-    ensures { IfOk result (λ found. Says (verb.now ∷ texts arguments.now) found) }
+    ensures { IfOk result (λ found. Says words Fits (verb.now ∷ texts arguments.now) found) }
 {
     match verb {
         "sets" => Ok(sets(arguments)),
