@@ -1,5 +1,5 @@
 -- Words of a capture: which bytes they have, and that each says one thing.
-use Rattle.std.proofs.Common.{◌≡◌, refl, sym, take, ap, ◌∙◌, Bool, true, false, ℕ, ◌<◌, ◌^◌, List, [], ◌∷◌, length, Option, Some, None, ℤ, pos, negsuc, arith, inl, inr, if◌then◌else◌}
+use Rattle.std.proofs.Common.{◌≡◌, refl, sym, take, ap, Bool, true, false, ℕ, ◌<◌, ◌^◌, List, [], ◌∷◌, length, Option, Some, None, ℤ, pos, negsuc, arith, inl, inr, if◌then◌else◌}
 use Rattle.std.specs.Prelude.{codes, string_bytes, nat_lt, FitsSigned}
 use Rattle.std.specs.Int.{IsInRange, w32}
 use Rattle.std.specs.List.{All}
@@ -7,7 +7,7 @@ use Rattle.std.specs.Str.{IsAscii, bytes_eq}
 use Rattle.std.specs.Fmt.{decimal, signed_decimal}
 use Rattle.std.specs.declared.alloc.Global.{Global}
 use Rattle.std.specs.declared.string.String.{String}
-use Rattle.std.proofs.lemmas.Bool.{cases_lt, false≢true}
+use Rattle.std.proofs.lemmas.Bool.{cases_lt}
 use Rattle.std.proofs.lemmas.Bool.Decides.{nat_tests}
 use Rattle.std.proofs.lemmas.Fmt.{decimal_injective, signed_decimal_injective}
 use Rattle.std.proofs.lemmas.List.{get_or_past}
@@ -73,13 +73,13 @@ clean_refusal Null f = clean_text (codes "null") refl
 first_differs : {xs ys : List ℕ} → xs ≡ ys → bytes_eq (take 1 xs) (take 1 ys) ≡ false → ⊥
 first_differs {xs} {ys} e f = differ (take 1 xs) (take 1 ys) false (sym f) refl (ap (take 1) e)
 
--- words that begin with this one, and words that don't
-abbrev pub starts : List ℕ → List (List ℕ) → Bool
-starts v [] = false
-starts v (w ∷ ws) = bytes_eq v w
+abbrev pub first_word : List (List ℕ) → List ℕ
+first_word [] = []
+first_word (w ∷ ws) = w
 
-pub other : (v : List ℕ) {ws vs : List (List ℕ)} → ws ≡ vs → starts v ws ≡ true → starts v vs ≡ false → ⊥
-other v e t f = false≢true (sym f ∙ (ap (starts v) (sym e) ∙ t))
+-- lines that begin with other words
+pub other : {ws vs : List (List ℕ)} → ws ≡ vs → bytes_eq (first_word ws) (first_word vs) ≡ false → ⊥
+other {ws} {vs} e f = differ (first_word ws) (first_word vs) false (sym f) refl (ap first_word e)
 
 pub location-one : (a b : MemoryLocation) → location_word a ≡ location_word b → b ≡ a
 location-one Unknown Unknown e = refl

@@ -6,6 +6,7 @@ pub mod D3D12Parts
 pub mod D3D12Meaning
 pub mod Made
 pub mod CapturedWords
+pub mod Reading
 pub mod Captured
 pub mod MetalCaptured
 pub mod D3D12Captured

@@ -20,4 +20,5 @@ no_texture (k ∷ m ∷ w ∷ h ∷ b ∷ rest) d none (Texture key t name) s =
     let f = s.fits.1 in
     let is = s.is in
     none t.storage_mode t.width t.height t.bytes_per_texel f.mode_fits f.width_fits f.height_fits f.bytes_fit (cc) (cc) (cc) (cc)
+no_texture arguments d none (Texture key t name) s = let is = s.is in cc
 no_texture arguments d none c s = let is = s.is in cc

@@ -9,8 +9,7 @@ use Rattle.gpu_block_session.specs.declared.block.command.Command as block_comma
 use Rattle.gpu_block_session.specs.declared.block.command.Command.TheVariants as blocks
 use Rattle.gpu_trace_text.specs.declared.device.setting.Setting as settings
 use Rattle.gpu_trace_text.specs.declared.device.setting.Setting.TheVariants.{Heap, MemoryType, Granularity, Sizes, Refuse}
-use Rattle.gpu_trace_text.specs.declared.line.Line.{Line}
-use Rattle.gpu_trace_text.specs.declared.line.Line.TheVariants as lines
+use Rattle.gpu_trace_text.specs.declared.dialect.Line.TheVariants as lines
 use Rattle.gpu_trace_text.specs.declared.reply.Reply.{Reply}
 use Rattle.gpu_block_session.specs.declared.outcome.Outcome.{Outcome}
 use Rattle.gpu_block_session.specs.declared.outcome.Outcome.TheVariants.{Nothing, Replied, Bad}
@@ -20,11 +19,16 @@ use Rattle.gpu_block_session.specs.BlockWords as block
 use Rattle.gpu_trace_text.specs.Setting as setting
 use Rattle.gpu_trace_text.specs.Ask as ask
 use Rattle.gpu_block_session.specs.Line.{IsBlank, IsRemark}
-use Rattle.gpu_trace_text.specs.Line.{IsSaid, Reads, Means}
+use Rattle.gpu_trace_text.specs.Dialect as dialect
+use Rattle.gpu_trace_text.specs.Line.{Line, Reads, Means}
+use Rattle.gpu_trace_text.specs.Spelled.{Spells}
 use Rattle.gpu_block_session.specs.BlockSort.{opens_block, uses_block, reports, sort_of_command}
 use Rattle.gpu_trace_text.specs.Sort.{Sort, of_block, describes, sets_page, sets_sizes, makes, asks, destroys, says_nothing, sort_of, sort_of_setting}
 use Rattle.gpu_trace_text.specs.Stage.{Admits, AdmitsSort, Does}
 use Rattle.gpu_trace_text.specs.BlockOrDevice.{Serves}
+
+abbrev IsSaid : List ℕ → Line → Type 0
+IsSaid = dialect.IsSaid (Spells setting.words setting.Fits) (Spells ask.words ask.Fits) block.Spells
 
 abbrev pub choose : Bool → Sort → Sort → Sort
 choose true a b = a
@@ -85,7 +89,7 @@ Says l = Unit {0}
 
 pub sort_read : (ws : List (List ℕ)) (l : Line) → Says l → Reads ws l → by_words ws ≡ sort_of l
 sort_read ws lines.Blank s r = absurd s
-sort_read ws (lines.Says c) s r = ap by_words r.is ∙ of_command c
+sort_read ws (lines.Other c) s r = ap by_words r.is ∙ of_command c
 sort_read ws (lines.Configures c) s r = ap by_words r.is ∙ of_setting c
 sort_read ws lines.New s r = ap by_words r
 sort_read ws (lines.Asks c) s r = ap by_words r.is ∙ of_ask c r.fits
@@ -131,30 +135,22 @@ said_alike stage line l m s t said also a =
 -- beside a reading that says something
 said_beside : (stage : Stage) (line : List ℕ) (l m : Line) → Says l → IsSaid line l → Means line m → Admits stage m → Admits stage l
 said_beside stage line l lines.Blank s said means a = absurd (not_blank line l s said means)
-said_beside stage line l (lines.Says c) s said means a = said_alike stage line l (lines.Says c) s tt said means a
-said_beside stage line l (lines.Configures c) s said means a = said_alike stage line l (lines.Configures c) s tt said means a
-said_beside stage line l lines.New s said means a = said_alike stage line l lines.New s tt said means a
-said_beside stage line l (lines.Asks c) s said means a = said_alike stage line l (lines.Asks c) s tt said means a
-said_beside stage line l lines.Destroy s said means a = said_alike stage line l lines.Destroy s tt said means a
 said_beside stage line l lines.Bad s said means a = absurd a
+said_beside stage line l m s said means a = said_alike stage line l m s tt said means a
 
 nothing_beside : (stage : Stage) (line : List ℕ) (m : Line) → Means line lines.Bad → Means line m → Admits stage m → ⊥
 nothing_beside stage line lines.Blank bad means a = bad.gives means
-nothing_beside stage line (lines.Says c) bad means a = (bad.says means.ascii).command c means.reads
+nothing_beside stage line (lines.Other c) bad means a = (bad.says means.ascii).other c means.reads
 nothing_beside stage line (lines.Configures c) bad means a = (bad.says means.ascii).setting c means.reads
 nothing_beside stage line lines.New bad means a = (bad.says means.ascii).new means.reads
-nothing_beside stage line (lines.Asks c) bad means a = (bad.says means.ascii).ask c means.reads
+nothing_beside stage line (lines.Asks c) bad means a = (bad.says means.ascii).command c means.reads
 nothing_beside stage line lines.Destroy bad means a = (bad.says means.ascii).destroy means.reads
 nothing_beside stage line lines.Bad bad means a = a
 
 alike : (stage : Stage) (line : List ℕ) (l m : Line) → Means line l → Means line m → Admits stage m → Admits stage l
 alike stage line lines.Blank m means also a = tt
-alike stage line (lines.Says c) m means also a = said_beside stage line (lines.Says c) m tt means also a
-alike stage line (lines.Configures c) m means also a = said_beside stage line (lines.Configures c) m tt means also a
-alike stage line lines.New m means also a = said_beside stage line lines.New m tt means also a
-alike stage line (lines.Asks c) m means also a = said_beside stage line (lines.Asks c) m tt means also a
-alike stage line lines.Destroy m means also a = said_beside stage line lines.Destroy m tt means also a
 alike stage line lines.Bad m means also a = nothing_beside stage line m means also a
+alike stage line l m means also a = said_beside stage line l m tt means also a
 
 pub served : (old new : Stage) (line : List ℕ) (l : Line) (o : Outcome Reply) → Means line l → Does old l o new → Serves old line o new
 served old new line l Nothing means did = (l, means, did)

@@ -1,7 +1,6 @@
 -- What a line of a block or device trace does.
 use Rattle.std.specs.Prelude.{ℕ, List}
-use Rattle.gpu_trace_text.specs.Line.{Means}
-use Rattle.gpu_trace_text.specs.declared.line.Line.{Line}
+use Rattle.gpu_trace_text.specs.Line.{Line, Means}
 use Rattle.gpu_trace_text.specs.declared.reply.Reply.{Reply}
 use Rattle.gpu_trace_text.specs.Stage.{Admits, Quietly, Step}
 use Rattle.gpu_trace_text.specs.declared.stage.Stage.{Stage}

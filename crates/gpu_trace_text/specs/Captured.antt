@@ -6,8 +6,8 @@ use Rattle.gpu_run.specs.declared.vulkan.command.Request.{Request}
 use Rattle.gpu_run.specs.declared.vulkan.command.Command.TheVariants.{Alloc, Move, Rename}
 use Rattle.gpu_block_session.specs.Run.{lines_of}
 use Rattle.gpu_trace_text.specs.Ask.{FitsRequirements, FitsScheme}
-use Rattle.gpu_trace_text.specs.declared.line.Line.{Line}
-use Rattle.gpu_trace_text.specs.declared.line.Line.TheVariants as lines
+use Rattle.gpu_trace_text.specs.Line.{Line}
+use Rattle.gpu_trace_text.specs.declared.dialect.Line.TheVariants as lines
 
 -- the text begins with a line that can't be read as anything but this; behind it the rest is read
 pub record BeginsWith {L : Type 0} (Means : List ℕ → L → Type 0) (Is : L → Type 0) (text rest : List ℕ) : Type 0 where

@@ -8,8 +8,8 @@ use Rattle.gpu_d3d12.specs.declared.category.ResourceCategory.{ResourceCategory}
 use Rattle.gpu_d3d12.specs.declared.category.ResourceCategory.TheVariants as categories
 use Rattle.gpu_run.specs.declared.d3d12.command.Request.{Request}
 use Rattle.gpu_run.specs.declared.d3d12.command.Command.TheVariants.{Alloc, Move, Rename}
-use Rattle.gpu_trace_text.specs.declared.d3d12.line.Line.{Line}
-use Rattle.gpu_trace_text.specs.declared.d3d12.line.Line.TheVariants as lines
+use Rattle.gpu_trace_text.specs.D3D12Line.{Line}
+use Rattle.gpu_trace_text.specs.declared.dialect.Line.TheVariants as lines
 
 -- what a request's numbers may be; its name may be any bytes
 pub record FitsCaptured (r : D3D12Request) : Type 0 where

@@ -5,7 +5,6 @@ use Rattle.std.specs.Fmt.{signed_decimal}
 use Rattle.gpu_device.specs.declared.d3d12.types.ResourceHeapTier.{ResourceHeapTier}
 use Rattle.gpu_capture.specs.D3D12.{tier_word}
 use Rattle.gpu_trace_text.specs.Setting as settings
-use Rattle.gpu_trace_text.specs.Setting.{IsShared}
 use Rattle.gpu_trace_text.specs.declared.d3d12.setting.Setting.{Setting}
 use Rattle.gpu_trace_text.specs.declared.d3d12.setting.Setting.TheVariants.{Tier, Interface, Shared}
 use Rattle.gpu_trace_text.specs.declared.d3d12.setting.Version.{Version}
@@ -37,4 +36,4 @@ FitsTier (Err code) = FitsSigned w32 code
 abbrev pub Fits : Setting → Type 0
 Fits (Tier tier) = FitsTier tier
 Fits (Interface version) = Unit {0}
-Fits (Shared s) = IsShared s × settings.Fits s
+Fits (Shared s) = settings.FitsShared s

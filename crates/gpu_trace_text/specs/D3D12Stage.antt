@@ -24,9 +24,8 @@ use Rattle.gpu_block_session.specs.declared.outcome.Outcome.{Outcome}
 use Rattle.gpu_block_session.specs.declared.outcome.Outcome.TheVariants.{Nothing, Replied, Bad}
 use Rattle.gpu_trace_text.specs.D3D12Asked.{Shows}
 use Rattle.gpu_trace_text.specs.D3D12Configuration.{Configured, configured_by, tier_by, plan_by, version_by, sizes_by, by_version}
-use Rattle.gpu_trace_text.specs.D3D12Line.{Means}
-use Rattle.gpu_trace_text.specs.declared.d3d12.line.Line.{Line}
-use Rattle.gpu_trace_text.specs.declared.d3d12.line.Line.TheVariants as lines
+use Rattle.gpu_trace_text.specs.D3D12Line.{Line, Means}
+use Rattle.gpu_trace_text.specs.declared.dialect.Line.TheVariants as lines
 use Rattle.gpu_trace_text.specs.declared.d3d12.reply.Reply.{Reply}
 use Rattle.gpu_trace_text.specs.declared.d3d12.reply.Reply.TheVariants.{Made, Refused, Served, Held}
 use Rattle.gpu_trace_text.specs.declared.d3d12.stage.Stage.{Stage}
@@ -131,7 +130,7 @@ DoesConfiguring c _ did new = Stops (Configuring c) did new
 -- with the allocator there a command, `asked` or `destroy` may come
 abbrev pub DoesRunning : SessionValue SimD3D12 → Line → Outcome Reply → Stage → Type 0
 DoesRunning s (lines.Asks command) did new = Commands s command did new
-DoesRunning s lines.Asked did new = Tells s did new
+DoesRunning s (lines.Other look) did new = Tells s did new
 DoesRunning s lines.Destroy did new = Ends s did new
 DoesRunning s _ did new = Stops (Running s) did new
 

@@ -4,6 +4,7 @@ pub mod Stage
 pub mod BlockOrDevice
 pub mod Hex
 pub mod Spelled
+pub mod Dialect
 pub mod Setting
 pub mod Ask
 pub mod DeviceReply

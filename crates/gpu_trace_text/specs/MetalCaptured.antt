@@ -4,8 +4,8 @@ use Rattle.gpu_capture.specs.declared.request.MetalRequest.{MetalRequest}
 use Rattle.gpu_capture.specs.Line.{name_word}
 use Rattle.gpu_run.specs.declared.metal.command.Request.{Request}
 use Rattle.gpu_run.specs.declared.metal.command.Command.TheVariants.{Alloc, Move}
-use Rattle.gpu_trace_text.specs.declared.metal.line.Line.{Line}
-use Rattle.gpu_trace_text.specs.declared.metal.line.Line.TheVariants as lines
+use Rattle.gpu_trace_text.specs.MetalLine.{Line}
+use Rattle.gpu_trace_text.specs.declared.dialect.Line.TheVariants as lines
 
 -- what a request's numbers may be; its name may be any bytes
 pub record FitsCaptured (r : MetalRequest) : Type 0 where

@@ -1,18 +1,18 @@
 -- What a line of a Metal trace says, whatever came before it.
-use Rattle.std.specs.Prelude.{◌≡◌, ◌≢◌, ℕ, List, [], ◌∷◌, codes}
-use Rattle.std.specs.Str.{IsAscii}
+use Rattle.std.specs.Prelude.{◌≡◌, ℕ, List, [], ◌∷◌, codes}
 use Rattle.gpu_run.specs.declared.metal.command.Command.{Command}
-use Rattle.gpu_block_session.specs.Line.{IsBlank}
-use Rattle.gpu_trace_text.specs.Line.{new_words, destroy_words}
-use Rattle.gpu_block_session.specs.Words.{words_of}
+use Rattle.gpu_trace_text.specs.Dialect as dialect
 use Rattle.gpu_trace_text.specs.MetalCommand as command
 use Rattle.gpu_trace_text.specs.MetalSetting as setting
 use Rattle.gpu_trace_text.specs.Spelled.{Spells}
-use Rattle.gpu_trace_text.specs.declared.metal.line.Line.{Line}
-use Rattle.gpu_trace_text.specs.declared.metal.line.Line.TheVariants as lines
+use Rattle.gpu_trace_text.specs.declared.dialect.Line as lines
 use Rattle.gpu_trace_text.specs.declared.metal.line.Look.{Look}
 use Rattle.gpu_trace_text.specs.declared.metal.line.Look.TheVariants.{Members, Committed, Asked}
 use Rattle.gpu_trace_text.specs.declared.metal.setting.Setting.{Setting}
+
+-- a setting, a command, or what is looked up
+abbrev pub Line : Type 0
+Line = lines.Line Setting Command Look
 
 -- the one word of a look
 abbrev pub look_words : Look → List (List ℕ)
@@ -20,44 +20,10 @@ look_words Members = codes "members" ∷ []
 look_words Committed = codes "committed" ∷ []
 look_words Asked = codes "asked" ∷ []
 
--- words that say nothing
-pub record SaysNothing (words : List (List ℕ)) : Type 0 where
-  pub setting : (s : Setting) → Spells setting.words setting.Fits words s → ⊥
-  pub command : (c : Command) → Spells command.words command.Fits words c → ⊥
-  pub new : words ≢ new_words
-  pub look : (l : Look) → words ≢ look_words l
-  pub destroy : words ≢ destroy_words
+-- the words are this look's
+abbrev pub IsLook : List (List ℕ) → Look → Type 0
+IsLook words l = words ≡ look_words l
 
--- what words say that are no setting and no command
-abbrev pub ReadsAlone : List (List ℕ) → Line → Type 0
-ReadsAlone words lines.New = words ≡ new_words
-ReadsAlone words (lines.Looks l) = words ≡ look_words l
-ReadsAlone words lines.Destroy = words ≡ destroy_words
-ReadsAlone words lines.Bad = (words ≢ new_words) × ((l : Look) → words ≢ look_words l) × (words ≢ destroy_words)
-ReadsAlone words _ = ⊥
-
--- what words say
-abbrev pub Reads : List (List ℕ) → Line → Type 0
-Reads words lines.Blank = ⊥
-Reads words (lines.Configures s) = Spells setting.words setting.Fits words s
-Reads words lines.New = words ≡ new_words
-Reads words (lines.Asks c) = Spells command.words command.Fits words c
-Reads words (lines.Looks l) = words ≡ look_words l
-Reads words lines.Destroy = words ≡ destroy_words
-Reads words lines.Bad = SaysNothing words
-
--- an ASCII line whose words say that
-pub record IsSaid (line : List ℕ) (l : Line) : Type 0 where
-  pub ascii : IsAscii line
-  pub reads : Reads (words_of line) l
-
--- a line that gives nothing and says nothing
-pub record IsNothing (line : List ℕ) : Type 0 where
-  pub gives : IsBlank line → ⊥
-  pub says : IsAscii line → SaysNothing (words_of line)
-
--- what a line says: nothing, if it is blank; what can't be read; or what its words say
+-- what a line says
 abbrev pub Means : List ℕ → Line → Type 0
-Means line lines.Blank = IsBlank line
-Means line lines.Bad = IsNothing line
-Means line l = IsSaid line l
+Means = dialect.Means (Spells setting.words setting.Fits) (Spells command.words command.Fits) IsLook

@@ -2,7 +2,6 @@
 use Rattle.std.specs.Prelude.{ℕ, List, [], ◌∷◌, codes}
 use Rattle.gpu_capture.specs.Metal.{yes_word, residency_words}
 use Rattle.gpu_trace_text.specs.Setting as settings
-use Rattle.gpu_trace_text.specs.Setting.{IsShared}
 use Rattle.gpu_trace_text.specs.declared.metal.setting.Setting.{Setting}
 use Rattle.gpu_trace_text.specs.declared.metal.setting.Setting.TheVariants.{Sets, Residency, Shared}
 
@@ -16,4 +15,4 @@ words (Shared s) = settings.words s
 abbrev pub Fits : Setting → Type 0
 Fits (Sets b) = Unit {0}
 Fits (Residency b) = Unit {0}
-Fits (Shared s) = IsShared s × settings.Fits s
+Fits (Shared s) = settings.FitsShared s

@@ -22,10 +22,9 @@ use Rattle.gpu_sim_metal.specs.declared.sim_metal.SimMetal.{SimMetal}
 use Rattle.gpu_block_session.specs.declared.outcome.Outcome.{Outcome}
 use Rattle.gpu_block_session.specs.declared.outcome.Outcome.TheVariants.{Nothing, Replied, Bad}
 use Rattle.gpu_trace_text.specs.MetalConfiguration.{Configured, configured_by, plan_by, sizes_by, makes_sets, wants_set}
-use Rattle.gpu_trace_text.specs.MetalLine.{Means}
+use Rattle.gpu_trace_text.specs.MetalLine.{Line, Means}
 use Rattle.gpu_trace_text.specs.MetalLook.{Shows, members_in}
-use Rattle.gpu_trace_text.specs.declared.metal.line.Line.{Line}
-use Rattle.gpu_trace_text.specs.declared.metal.line.Line.TheVariants as lines
+use Rattle.gpu_trace_text.specs.declared.dialect.Line.TheVariants as lines
 use Rattle.gpu_trace_text.specs.declared.metal.line.Look.{Look}
 use Rattle.gpu_trace_text.specs.declared.metal.reply.Reply.{Reply}
 use Rattle.gpu_trace_text.specs.declared.metal.reply.Reply.TheVariants.{Made, Refused, Served, Held as HoldsNow}
@@ -132,7 +131,7 @@ DoesConfiguring c _ did new = Stops (Configuring c) did new
 -- with the allocator there a command, a look or `destroy` may come
 abbrev pub DoesRunning : SessionValue SimMetal → Line → Outcome Reply → Stage → Type 0
 DoesRunning s (lines.Asks command) did new = Commands s command did new
-DoesRunning s (lines.Looks look) did new = Looks s look did new
+DoesRunning s (lines.Other look) did new = Looks s look did new
 DoesRunning s lines.Destroy did new = Ends s did new
 DoesRunning s _ did new = Stops (Running s) did new
 

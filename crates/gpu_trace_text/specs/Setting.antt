@@ -39,3 +39,7 @@ IsShared (MemoryType flags heap) = ⊥
 IsShared (Granularity bytes) = ⊥
 IsShared (BlockSizes device host max_device max_host) = Unit {0}
 IsShared (Refuse question refusal) = Unit {0}
+
+-- it is one of these, and its numbers are what they may be
+abbrev pub FitsShared : Setting → Type 0
+FitsShared s = IsShared s × Fits s

@@ -2,8 +2,8 @@
 use Rattle.gpu_block_session.specs.BlockSort.{BlockSort, sort_of_command}
 use Rattle.gpu_trace_text.specs.declared.device.setting.Setting as settings
 use Rattle.gpu_trace_text.specs.declared.device.setting.Setting.TheVariants.{Heap, MemoryType, Granularity, Sizes, Refuse}
-use Rattle.gpu_trace_text.specs.declared.line.Line.{Line}
-use Rattle.gpu_trace_text.specs.declared.line.Line.TheVariants as lines
+use Rattle.gpu_trace_text.specs.Line.{Line}
+use Rattle.gpu_trace_text.specs.declared.dialect.Line.TheVariants as lines
 
 pub data Sort : Type 0 where
   -- empty, or a remark
@@ -28,7 +28,7 @@ sort_of_setting (Refuse question refusal) = describes
 
 abbrev pub sort_of : Line → Sort
 sort_of lines.Blank = skips
-sort_of (lines.Says c) = of_block (sort_of_command c)
+sort_of (lines.Other c) = of_block (sort_of_command c)
 sort_of (lines.Configures s) = sort_of_setting s
 sort_of lines.New = makes
 sort_of (lines.Asks c) = asks

@@ -1,6 +1,11 @@
 -- What words say, where each thing that can be said has one spelling: its words, where it fits.
 use Rattle.std.specs.Prelude.{◌≡◌, ℕ, List, Option, Some, None}
 
+-- the line says this, or nothing of the kind
+abbrev pub OneOf : {A : Type 0} → (List (List ℕ) → A → Type 0) → List (List ℕ) → Option A → Type 0
+OneOf Is line (Some a) = Is line a
+OneOf {A} Is line None = (a : A) → Is line a → ⊥
+
 module _ {A : Type 0} (words : A → List (List ℕ)) (Fits : A → Type 0) where
   -- the line is its words
   pub record Spells (line : List (List ℕ)) (a : A) : Type 0 where
@@ -9,5 +14,4 @@ module _ {A : Type 0} (words : A → List (List ℕ)) (Fits : A → Type 0) wher
 
   -- the line is this one's words, or no one's
   abbrev pub Says : List (List ℕ) → Option A → Type 0
-  Says line (Some a) = Spells line a
-  Says line None = (a : A) → Spells line a → ⊥
+  Says = OneOf Spells

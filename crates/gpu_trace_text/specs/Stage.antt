@@ -24,8 +24,8 @@ use Rattle.gpu_block_session.specs.declared.block.command.Command.TheVariants as
 use Rattle.gpu_block_session.specs.declared.block_stage.BlockStage.TheVariants as block_stages
 use Rattle.gpu_trace_text.specs.declared.device.reply.Reply as device_replies
 use Rattle.gpu_trace_text.specs.declared.device.reply.Reply.TheVariants.{Made, Served, Held, Refused}
-use Rattle.gpu_trace_text.specs.declared.line.Line.{Line}
-use Rattle.gpu_trace_text.specs.declared.line.Line.TheVariants as lines
+use Rattle.gpu_trace_text.specs.Line.{Line}
+use Rattle.gpu_trace_text.specs.declared.dialect.Line.TheVariants as lines
 use Rattle.gpu_trace_text.specs.declared.reply.Reply.{Reply}
 use Rattle.gpu_trace_text.specs.declared.reply.Reply.TheVariants as replies
 use Rattle.gpu_block_session.specs.declared.outcome.Outcome.{Outcome}
@@ -106,7 +106,7 @@ BlockStep old c (replies.Block r) (Block new) = block.Step old c r new
 BlockStep old c _ _ = ⊥
 
 abbrev pub DeviceStep : SessionValue SimVulkan → Line → Reply → Stage → Type 0
-DeviceStep s (lines.Says c) (replies.Device r) new = ServesSaid s c r new
+DeviceStep s (lines.Other c) (replies.Device r) new = ServesSaid s c r new
 DeviceStep s (lines.Asks c) (replies.Device r) new = Serves s (command_of c) r new
 DeviceStep s lines.Destroy (replies.Device r) new = Ends s r new
 DeviceStep s _ _ _ = ⊥
@@ -116,9 +116,9 @@ BeginStep c (replies.Device r) new = Begins c r new
 BeginStep c _ new = ⊥
 
 abbrev pub Step : Stage → Line → Reply → Stage → Type 0
-Step Before (lines.Says c) r new = BlockStep block_stages.Before c r new
+Step Before (lines.Other c) r new = BlockStep block_stages.Before c r new
 Step Before lines.New r new = BeginStep nothing_configured r new
-Step (Block old) (lines.Says c) r new = BlockStep old c r new
+Step (Block old) (lines.Other c) r new = BlockStep old c r new
 Step (Configuring c) lines.New r new = BeginStep c r new
 Step (Device s) l r new = DeviceStep s l r new
 Step _ _ _ _ = ⊥
@@ -178,7 +178,7 @@ Does old l Bad new = Admits old l → ⊥
 
 -- the numbers and names of a line that was read
 abbrev pub FitsLine : Line → Type 0
-FitsLine (lines.Says c) = FitsBlock c
+FitsLine (lines.Other c) = FitsBlock c
 FitsLine _ = Unit {0}
 
 -- a session served a command

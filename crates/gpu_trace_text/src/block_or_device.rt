@@ -19,7 +19,7 @@ fn serve<L: Log>(
 ) -> Result<(Stage, Outcome<Reply>), AllocError>
     ensures { IfOk result (λ r. Serves stage line.now r.1 r.0) }
 {
-    match read(alloc, line) {
+    match read::<Stage>(alloc, line) {
         Ok(line) => stage.serve(log, alloc, line),
         Err(error) => {
             let _ = stage.end(log);

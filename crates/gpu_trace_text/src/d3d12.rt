@@ -12,7 +12,7 @@ mod setting;
 mod stage;
 
 pub use configuration::Configuration;
-pub use line::{Line, read};
+pub use line::{Line, Look};
 pub use reply::Reply;
 pub use setting::{Setting, Version};
 pub use stage::Stage;

@@ -12,17 +12,19 @@ ghost use Rattle.gpu_trace_text.specs.Captured.{BeginsWith, FitsCaptured, IsAllo
 ghost use Rattle.gpu_trace_text.specs.Line.{Means};
 ghost use Rattle.gpu_trace_text.specs.Setting.{words as setting_words, Fits as FitsSetting};
 ghost use Rattle.gpu_trace_text.specs.declared.device.setting.Setting.{Setting};
-ghost use Rattle.gpu_trace_text.specs.declared.line.Line.TheVariants as lines;
+ghost use Rattle.gpu_trace_text.specs.declared.dialect.Line.TheVariants as lines;
 
 use std::alloc::Global;
 
 /// An allocation is read as just that: its number, what was asked for, and its name as a trace has it.
+#[tactic(auto, using(crate::proofs::Captured::alloc_reads))]
 pub fn allocation_reads_back(alloc: Global)
     ensures { (number : ℕ) (r : VulkanRequest) (rest : List ℕ) → number < 2 ^ 64 → FitsCaptured r
         → BeginsWith Means (IsAlloc number r) (alloc_line number (Vulkan r) ++ rest) rest }
 {}
 
 /// A second place that was asked for.
+#[tactic(auto, using(crate::proofs::Captured::move_reads))]
 pub fn move_reads_back(alloc: Global)
     ensures { (from to : ℕ) (r : VulkanRequest) (rest : List ℕ) → from < 2 ^ 64 → to < 2 ^ 64
         → FitsCaptured r
@@ -30,6 +32,7 @@ pub fn move_reads_back(alloc: Global)
 {}
 
 /// A free.
+#[tactic(auto, using(crate::proofs::Captured::free_reads))]
 pub fn free_reads_back()
     ensures { (number : ℕ) (rest : List ℕ) → number < 2 ^ 64
         → BeginsWith Means (λ l. l ≡ lines.Asks (Free number)) (line_of (free_words number) ++ rest)
@@ -37,6 +40,7 @@ pub fn free_reads_back()
 {}
 
 /// A new name, of any bytes.
+#[tactic(auto, using(crate::proofs::Captured::rename_reads))]
 pub fn rename_reads_back(alloc: Global)
     ensures { (number : ℕ) (name rest : List ℕ) → number < 2 ^ 64
         → BeginsWith Means (IsRename number name)
@@ -44,6 +48,7 @@ pub fn rename_reads_back(alloc: Global)
 {}
 
 /// A budget.
+#[tactic(auto, using(crate::proofs::Captured::budget_reads))]
 pub fn budget_reads_back()
     ensures { (memory_type : ℕ) (budget : Option ℕ) (rest : List ℕ) → memory_type < 2 ^ 64
         → FitsBudget budget
@@ -52,6 +57,7 @@ pub fn budget_reads_back()
 {}
 
 /// A heap, a memory type, the size of a page, the sizes of blocks, and a question that was refused: the reader's words are the capture's.
+#[tactic(auto, using(crate::proofs::Captured::setting_reads))]
 pub fn setting_reads_back()
     ensures { (s : Setting) (rest : List ℕ) → FitsSetting s
         → BeginsWith Means (λ l. l ≡ lines.Configures s) (line_of (setting_words s) ++ rest) rest }

@@ -7,6 +7,7 @@ mod block_or_device;
 mod configuration;
 pub mod d3d12;
 pub mod device;
+mod dialect;
 mod hex;
 pub mod laws;
 mod line;
@@ -16,9 +17,10 @@ mod stage;
 
 pub use any::{AnyReply, AnyTrace, replay_trace, run_trace};
 pub use configuration::Configuration;
+pub use dialect::{Dialect, read};
 pub use gpu_block_session::{
     BlockStage, Outcome, Replayed, Trace, TraceError, replay_from, run_from,
 };
-pub use line::{Line, read};
+pub use line::Line;
 pub use reply::Reply;
 pub use stage::Stage;

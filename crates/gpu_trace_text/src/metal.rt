@@ -10,7 +10,7 @@ mod setting;
 mod stage;
 
 pub use configuration::Configuration;
-pub use line::{Line, Look, read};
+pub use line::{Line, Look};
 pub use reply::Reply;
 pub use setting::Setting;
 pub use stage::Stage;

@@ -5,6 +5,7 @@ ghost use Rattle.gpu_block_session.specs.BlockWords.{Fits};
 ghost use Rattle.gpu_run.specs.VulkanServed.{command_of};
 ghost use Rattle.gpu_trace_text.specs.Stage.{IsSound, Begins, Does, MatchServed, Ended, FitsLine};
 ghost use Rattle.gpu_block_session.specs.declared.block_stage.BlockStage.TheVariants as block_stages;
+ghost use Rattle.gpu_trace_text.specs.declared.dialect.Line.TheVariants as lines;
 
 use crate::configuration::Configuration;
 use crate::device::reply as device;
@@ -37,7 +38,7 @@ pub enum Stage {
 /// Serves a command of a block trace.
 fn serve_block(mut stage: BlockStage, alloc: Global, command: Command) -> (Stage, Outcome<Reply>)
     requires { Fits command }
-    ensures { Does (Stage.Block stage) (Line.Says command) result.1 result.0 }
+    ensures { Does (Stage.Block stage) (lines.Other command) result.1 result.0 }
 {
     match stage.serve(alloc, &command) {
         Some(reply) => (Stage::Block(stage), Outcome::Replied(Reply::Block(reply))),
@@ -85,7 +86,7 @@ fn configure(
     mut configuration: Configuration,
     setting: Setting,
 ) -> Result<(Stage, Outcome<Reply>), AllocError>
-    ensures { IfOk result (λ r. Does (Stage.Configuring configuration) (Line.Configures setting) r.1
+    ensures { IfOk result (λ r. Does (Stage.Configuring configuration) (lines.Configures setting) r.1
         r.0) }
 {
     if configuration.set(&setting)? {
@@ -117,7 +118,7 @@ fn serve_device<L: Log>(log: &L, session: Session<SimVulkan>, line: Line) -> (St
 {
     match line {
         Line::Blank => (Stage::Device(session), Outcome::Nothing),
-        Line::Says(command) => match command {
+        Line::Other(command) => match command {
             Command::Report => serve_ask(log, session, &Ask::Report),
             _ => (Stage::Device(session), Outcome::Bad),
         },
@@ -149,7 +150,7 @@ impl Stage {
             Stage::Before => serve_first(log, alloc, line),
             Stage::Block(stage) => match line {
                 Line::Blank => Ok((Stage::Block(stage), Outcome::Nothing)),
-                Line::Says(command) => Ok(serve_block(stage, alloc, command)),
+                Line::Other(command) => Ok(serve_block(stage, alloc, command)),
                 _ => Ok((Stage::Block(stage), Outcome::Bad)),
             },
             Stage::Configuring(configuration) => serve_configuring(log, alloc, configuration, line),
@@ -183,7 +184,7 @@ fn serve_first<L: Log>(
 {
     match line {
         Line::Blank => Ok((Stage::Before, Outcome::Nothing)),
-        Line::Says(command) => Ok(serve_block(BlockStage::Before, alloc, command)),
+        Line::Other(command) => Ok(serve_block(BlockStage::Before, alloc, command)),
         Line::Configures(setting) => configure(Configuration::new(alloc), setting),
         Line::New => {
             let (stage, reply) = make(log, alloc, Configuration::new(alloc));

@@ -14,17 +14,19 @@ ghost use Rattle.gpu_trace_text.specs.D3D12Captured.{FitsCaptured, IsAlloc, IsMo
 ghost use Rattle.gpu_trace_text.specs.D3D12Line.{Means};
 ghost use Rattle.gpu_trace_text.specs.D3D12Setting.{words as setting_words, Fits as FitsSetting};
 ghost use Rattle.gpu_trace_text.specs.declared.d3d12.setting.Setting.{Setting};
-ghost use Rattle.gpu_trace_text.specs.declared.d3d12.line.Line.TheVariants as lines;
+ghost use Rattle.gpu_trace_text.specs.declared.dialect.Line.TheVariants as lines;
 
 use std::alloc::Global;
 
 /// An allocation is read as just that: its number, what was asked for, and its name as a trace has it.
+#[tactic(auto, using(crate::proofs::D3D12Captured::alloc_reads))]
 pub fn allocation_reads_back(alloc: Global)
     ensures { (number : ℕ) (r : D3D12Request) (rest : List ℕ) → number < 2 ^ 64 → FitsCaptured r
         → BeginsWith Means (IsAlloc number r) (alloc_line number (requests.D3D12 r) ++ rest) rest }
 {}
 
 /// A second place that was asked for.
+#[tactic(auto, using(crate::proofs::D3D12Captured::move_reads))]
 pub fn move_reads_back(alloc: Global)
     ensures { (from to : ℕ) (r : D3D12Request) (rest : List ℕ) → from < 2 ^ 64 → to < 2 ^ 64
         → FitsCaptured r
@@ -32,6 +34,7 @@ pub fn move_reads_back(alloc: Global)
 {}
 
 /// A free.
+#[tactic(auto, using(crate::proofs::D3D12Captured::free_reads))]
 pub fn free_reads_back()
     ensures { (number : ℕ) (rest : List ℕ) → number < 2 ^ 64
         → BeginsWith Means (λ l. l ≡ lines.Asks (Free number)) (line_of (free_words number) ++ rest)
@@ -46,6 +49,7 @@ pub fn release_reads_back()
 {}
 
 /// A new name, of any bytes.
+#[tactic(auto, using(crate::proofs::D3D12Captured::rename_reads))]
 pub fn rename_reads_back(alloc: Global)
     ensures { (number : ℕ) (name rest : List ℕ) → number < 2 ^ 64
         → BeginsWith Means (IsRename number name)
@@ -53,6 +57,7 @@ pub fn rename_reads_back(alloc: Global)
 {}
 
 /// A budget.
+#[tactic(auto, using(crate::proofs::D3D12Captured::budget_reads))]
 pub fn budget_reads_back()
     ensures { (memory_type : ℕ) (budget : Option ℕ) (rest : List ℕ) → memory_type < 2 ^ 64
         → FitsBudget budget
@@ -61,6 +66,7 @@ pub fn budget_reads_back()
 {}
 
 /// Block sizes, a question that was refused, and the device's heap tier: the reader's words are the capture's.
+#[tactic(auto, using(crate::proofs::D3D12Captured::setting_reads))]
 pub fn setting_reads_back()
     ensures { (s : Setting) (rest : List ℕ) → FitsSetting s
         → BeginsWith Means (λ l. l ≡ lines.Configures s) (line_of (setting_words s) ++ rest) rest }

@@ -1,79 +1,64 @@
-//! What a line of a DirectX 12 trace says.
-
-ghost use Rattle.std.specs.Prelude.{◌∷◌, IfOk};
-ghost use Rattle.gpu_block_session.specs.Words.{texts, words_of};
-ghost use Rattle.gpu_trace_text.specs.D3D12Line.{Means, Reads, ReadsAlone};
+//! The words of DirectX 12 traces.
 
 use crate::d3d12::command::said_command;
 use crate::d3d12::setting::{Setting, said_setting};
-use gpu_block_session::ascii;
-use gpu_block_session::words::words;
+use crate::d3d12::stage::Stage;
+use crate::dialect;
+use crate::dialect::Dialect;
 use gpu_run::d3d12::Command;
 use std::alloc::{AllocError, Global};
 
-/// What a line says.
-#[derive(Drop)]
-pub enum Line {
-    /// Nothing: it is empty or a remark.
-    Blank,
-    Configures(Setting),
-    /// The end of the configuration: the allocator is to be made.
-    New,
-    Asks(Command),
-    /// What the device was asked is to be told.
+/// What is looked up of the device, beside the session.
+#[derive(Clone, Copy, Debug, PartialEq, Eq)]
+pub enum Look {
+    /// How many questions the device was asked, and the latest ones for a heap and for a resource.
     Asked,
-    /// The end of the trace.
-    Destroy,
-    Bad,
 }
 
-/// What a word alone says.
-fn alone(verb: &str, arguments: &[&str]) -> Line
-    ensures { ReadsAlone (verb.now ∷ texts arguments.now) result }
-{
-    let [] = arguments else {
-        return Line::Bad;
-    };
-    match verb {
-        "new" => Line::New,
-        "asked" => Line::Asked,
-        "destroy" => Line::Destroy,
-        _ => Line::Bad,
-    }
-}
+/// What a line says.
+pub type Line = dialect::Line<Setting, Command, Look>;
 
-/// What words say.
-fn said(alloc: Global, verb: &str, arguments: &[&str]) -> Result<Line, AllocError>
-    ensures { IfOk result (Reads (verb.now ∷ texts arguments.now)) }
-{
-    if let Some(setting) = said_setting(alloc, verb, arguments)? {
-        return Ok(Line::Configures(setting));
-    }
-    if let Some(command) = said_command(alloc, verb, arguments)? {
-        return Ok(Line::Asks(command));
-    }
-    Ok(alone(verb, arguments))
-}
+impl Dialect for Stage {
+    ghost use Rattle.gpu_trace_text.specs.D3D12Command as command;
+    ghost use Rattle.gpu_trace_text.specs.D3D12Line.{IsLook};
+    ghost use Rattle.gpu_trace_text.specs.D3D12Setting as setting;
+    ghost use Rattle.gpu_trace_text.specs.Spelled.{Spells};
 
-fn said_by(alloc: Global, line: &str) -> Result<Line, AllocError>
-    ensures { IfOk result (Reads (words_of line.now)) }
-{
-    let words = words(alloc, line)?;
-    match words.as_slice() {
-        [verb, arguments @ ..] => said(alloc, verb, arguments),
-        [] => Ok(Line::Bad),
-    }
-}
+    type Setting = Setting;
 
-/// Reads a line. Only host memory can be refused.
-pub fn read(alloc: Global, line: &[u8]) -> Result<Line, AllocError>
-    ensures { IfOk result (Means line.now) }
-{
-    let Some(text) = ascii(line) else {
-        return Ok(Line::Bad);
-    };
-    match line {
-        [] | [b'#', ..] => Ok(Line::Blank),
-        _ => said_by(alloc, text),
+    type Command = Command;
+
+    type Other = Look;
+
+    ghost is_setting = { Spells setting.words setting.Fits };
+
+    ghost is_command = { Spells command.words command.Fits };
+
+    ghost is_other = { IsLook };
+
+    fn setting(
+        alloc: Global,
+        verb: &str,
+        arguments: &[&str],
+    ) -> Result<Option<Setting>, AllocError> {
+        said_setting(alloc, verb, arguments)
+    }
+
+    fn command(
+        alloc: Global,
+        verb: &str,
+        arguments: &[&str],
+    ) -> Result<Option<Command>, AllocError> {
+        said_command(alloc, verb, arguments)
+    }
+
+    fn other(_: Global, verb: &str, arguments: &[&str]) -> Result<Option<Look>, AllocError> {
+        let [] = arguments else {
+            return Ok(None);
+        };
+        match verb {
+            "asked" => Ok(Some(Look::Asked)),
+            _ => Ok(None),
+        }
     }
 }

@@ -7,7 +7,7 @@ ghost use Rattle.gpu_trace_text.specs.Spelled.{Says};
 ghost use Rattle.gpu_trace_text.specs.declared.d3d12.setting.Version.{Version};
 
 use crate::device::setting;
-use crate::device::setting::setting_of;
+use crate::device::setting::shared_setting_of;
 use gpu_block_session::words::code;
 use gpu_device::d3d12::ResourceHeapTier;
 use std::alloc::{AllocError, Global};
@@ -89,26 +89,6 @@ fn newest(arguments: &[&str]) -> Option<Setting>
     Some(Setting::Interface(version))
 }
 
-#[tactic(auto, using(crate::proofs::Settings::sizes_shared))]
-fn sizes(alloc: Global, arguments: &[&str]) -> Result<Option<Setting>, AllocError>
-    ensures { IfOk result (λ found. Says words Fits (codes "sizes" ∷ texts arguments.now) found) }
-{
-    match setting_of(alloc, "sizes", arguments)? {
-        Some(setting) => Ok(Some(Setting::Shared(setting))),
-        None => Ok(None),
-    }
-}
-
-#[tactic(auto, using(crate::proofs::Settings::refuse_shared))]
-fn refuse(alloc: Global, arguments: &[&str]) -> Result<Option<Setting>, AllocError>
-    ensures { IfOk result (λ found. Says words Fits (codes "refuse" ∷ texts arguments.now) found) }
-{
-    match setting_of(alloc, "refuse", arguments)? {
-        Some(setting) => Ok(Some(Setting::Shared(setting))),
-        None => Ok(None),
-    }
-}
-
 /// The setting that a line's words say, or `None` where they say none. Only host memory can be refused.
 pub(crate) fn said_setting(
     alloc: Global,
@@ -120,8 +100,9 @@ pub(crate) fn said_setting(
     match verb {
         "tier" => tier(alloc, arguments),
         "version" => Ok(newest(arguments)),
-        "sizes" => sizes(alloc, arguments),
-        "refuse" => refuse(alloc, arguments),
-        _ => Ok(None),
+        _ => match shared_setting_of(alloc, verb, arguments)? {
+            Some(setting) => Ok(Some(Setting::Shared(setting))),
+            None => Ok(None),
+        },
     }
 }

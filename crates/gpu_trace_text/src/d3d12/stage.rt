@@ -2,13 +2,14 @@
 
 ghost use Rattle.std.specs.Prelude.{IfOk};
 ghost use Rattle.gpu_trace_text.specs.D3D12Stage.{Begins, Does, IsSound, MatchDone};
+ghost use Rattle.gpu_trace_text.specs.declared.dialect.Line.TheVariants as lines;
 
 use crate::d3d12::configuration::Configuration;
-use crate::d3d12::line::{Line, read};
+use crate::d3d12::line::{Line, Look};
 use crate::d3d12::looking::asked;
 use crate::d3d12::reply::Reply;
 use crate::d3d12::setting::Setting;
-use crate::{Outcome, Trace};
+use crate::{Outcome, Trace, read};
 use gpu_d3d12::{Allocator, AllocatorCreateDesc};
 use gpu_run::d3d12::{Command, Session};
 use gpu_run::{Serve, number_of};
@@ -69,7 +70,7 @@ fn configure(
     setting: Setting,
 ) -> Result<(Stage, Outcome<Reply>), AllocError>
     ensures { IfOk result (MatchDone (Does (Stage.Configuring configuration)
-        (Line.Configures setting))) }
+        (lines.Configures setting))) }
 {
     if configuration.set(&setting)? {
         Ok((Stage::Configuring(configuration), Outcome::Nothing))
@@ -90,7 +91,7 @@ fn serve_configuring(
         Line::Blank => Ok((Stage::Configuring(configuration), Outcome::Nothing)),
         Line::Configures(setting) => configure(configuration, setting),
         Line::New => Ok(make(alloc, configuration)),
-        Line::Asks(_) | Line::Asked | Line::Destroy | Line::Bad => {
+        Line::Asks(_) | Line::Other(_) | Line::Destroy | Line::Bad => {
             Ok((Stage::Configuring(configuration), Outcome::Bad))
         }
     }
@@ -98,7 +99,7 @@ fn serve_configuring(
 
 /// Destroys the allocator.
 fn destroy<L: Log>(log: &L, session: Session<SimD3D12>) -> (Stage, Outcome<Reply>)
-    ensures { MatchDone (Does (Stage.Running session) Line.Destroy) result }
+    ensures { MatchDone (Does (Stage.Running session) lines.Destroy) result }
 {
     let device = session.destroy(log).into_device();
     let count = device.held() as u64;
@@ -111,7 +112,7 @@ fn serve_command<L: Log>(
     mut session: Session<SimD3D12>,
     command: &Command,
 ) -> (Stage, Outcome<Reply>)
-    ensures { MatchDone (Does (Stage.Running session) (Line.Asks command.now)) result }
+    ensures { MatchDone (Does (Stage.Running session) (lines.Asks command.now)) result }
 {
     let reply = session.serve(log, command);
     show_sound(&session);
@@ -128,7 +129,7 @@ fn serve_running<L: Log>(log: &L, session: Session<SimD3D12>, line: Line) -> (St
     match line {
         Line::Blank => (Stage::Running(session), Outcome::Nothing),
         Line::Asks(command) => serve_command(log, session, &command),
-        Line::Asked => {
+        Line::Other(Look::Asked) => {
             let reply = asked(session.device().device());
             (Stage::Running(session), Outcome::Replied(reply))
         }
@@ -172,7 +173,7 @@ impl Trace for Stage {
         alloc: Global,
         line: &[u8],
     ) -> Result<(Self, Outcome<Reply>), AllocError> {
-        match read(alloc, line) {
+        match read::<Stage>(alloc, line) {
             Ok(line) => serve_line(log, alloc, self, line),
             Err(error) => {
                 self.end(log);

@@ -5,7 +5,7 @@ ghost use Rattle.std.specs.Fmt.{decimal};
 ghost use Rattle.gpu_device.specs.declared.refusal.Refusal.{Refusal};
 ghost use Rattle.gpu_block_session.specs.Words.{texts};
 ghost use Rattle.gpu_capture.specs.Words.{refusal_word};
-ghost use Rattle.gpu_trace_text.specs.Setting.{words, Fits, FitsRefusal, sizes_of};
+ghost use Rattle.gpu_trace_text.specs.Setting.{words, Fits, FitsRefusal, FitsShared, sizes_of};
 ghost use Rattle.gpu_trace_text.specs.Spelled.{Says};
 
 use gpu_block_session::words::{code, number, small_number};
@@ -132,6 +132,22 @@ fn refuse(alloc: Global, arguments: &[&str]) -> Result<Option<Setting>, AllocErr
     Ok(Some(Setting::Refuse { question, refusal }))
 }
 
+/// The setting of any sort of traces over a device that a line's words say, or `None` where they say none. Only host memory can be refused.
+#[tactic(auto, using(crate::proofs::Settings::sizes_shared, crate::proofs::Settings::refuse_shared))]
+pub fn shared_setting_of(
+    alloc: Global,
+    verb: &str,
+    arguments: &[&str],
+) -> Result<Option<Setting>, AllocError>
+    ensures { IfOk result (λ found. Says words FitsShared (verb.now ∷ texts arguments.now) found) }
+{
+    match verb {
+        "sizes" => Ok(sizes(arguments)),
+        "refuse" => refuse(alloc, arguments),
+        _ => Ok(None),
+    }
+}
+
 /// The setting that a line's words say, or `None` where they say none. Only host memory can be refused.
 pub fn setting_of(
     alloc: Global,
@@ -144,9 +160,7 @@ pub fn setting_of(
         "heap" => Ok(heap(arguments)),
         "type" => Ok(memory_type(arguments)),
         "granularity" => Ok(granularity(arguments)),
-        "sizes" => Ok(sizes(arguments)),
-        "refuse" => refuse(alloc, arguments),
-        _ => Ok(None),
+        _ => shared_setting_of(alloc, verb, arguments),
     }
 }
 

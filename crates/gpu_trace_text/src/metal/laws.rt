@@ -13,17 +13,19 @@ ghost use Rattle.gpu_trace_text.specs.MetalCaptured.{FitsCaptured, IsAlloc, IsMo
 ghost use Rattle.gpu_trace_text.specs.MetalLine.{Means};
 ghost use Rattle.gpu_trace_text.specs.MetalSetting.{words as setting_words, Fits as FitsSetting};
 ghost use Rattle.gpu_trace_text.specs.declared.metal.setting.Setting.{Setting};
-ghost use Rattle.gpu_trace_text.specs.declared.metal.line.Line.TheVariants as lines;
+ghost use Rattle.gpu_trace_text.specs.declared.dialect.Line.TheVariants as lines;
 
 use std::alloc::Global;
 
 /// An allocation is read as just that: its number, what was asked for, and its name as a trace has it.
+#[tactic(auto, using(crate::proofs::MetalCaptured::alloc_reads))]
 pub fn allocation_reads_back(alloc: Global)
     ensures { (number : ℕ) (r : MetalRequest) (rest : List ℕ) → number < 2 ^ 64 → FitsCaptured r
         → BeginsWith Means (IsAlloc number r) (alloc_line number (requests.Metal r) ++ rest) rest }
 {}
 
 /// A second place that was asked for.
+#[tactic(auto, using(crate::proofs::MetalCaptured::move_reads))]
 pub fn move_reads_back(alloc: Global)
     ensures { (from to : ℕ) (r : MetalRequest) (rest : List ℕ) → from < 2 ^ 64 → to < 2 ^ 64
         → FitsCaptured r
@@ -31,6 +33,7 @@ pub fn move_reads_back(alloc: Global)
 {}
 
 /// A free.
+#[tactic(auto, using(crate::proofs::MetalCaptured::free_reads))]
 pub fn free_reads_back()
     ensures { (number : ℕ) (rest : List ℕ) → number < 2 ^ 64
         → BeginsWith Means (λ l. l ≡ lines.Asks (Free number)) (line_of (free_words number) ++ rest)
@@ -38,6 +41,7 @@ pub fn free_reads_back()
 {}
 
 /// A budget.
+#[tactic(auto, using(crate::proofs::MetalCaptured::budget_reads))]
 pub fn budget_reads_back()
     ensures { (memory_type : ℕ) (budget : Option ℕ) (rest : List ℕ) → memory_type < 2 ^ 64
         → FitsBudget budget
@@ -46,12 +50,14 @@ pub fn budget_reads_back()
 {}
 
 /// That the residency set was committed.
+#[tactic(auto, using(crate::proofs::MetalCaptured::commit_reads))]
 pub fn commit_reads_back()
     ensures { (rest : List ℕ)
         → BeginsWith Means (λ l. l ≡ lines.Asks Commit) (line_of (codes "commit" ∷ []) ++ rest) rest }
 {}
 
 /// Block sizes, a question that was refused, and whether there is a residency set: the reader's words are the capture's.
+#[tactic(auto, using(crate::proofs::MetalCaptured::setting_reads))]
 pub fn setting_reads_back()
     ensures { (s : Setting) (rest : List ℕ) → FitsSetting s
         → BeginsWith Means (λ l. l ≡ lines.Configures s) (line_of (setting_words s) ++ rest) rest }

@@ -1,13 +1,10 @@
-//! What a line of a Metal trace says.
+//! The words of Metal traces.
 
-ghost use Rattle.std.specs.Prelude.{◌≡◌, ◌∷◌, IfOk};
-ghost use Rattle.gpu_block_session.specs.Words.{texts, words_of};
-ghost use Rattle.gpu_trace_text.specs.MetalLine.{Means, Reads, ReadsAlone};
-
+use crate::dialect;
+use crate::dialect::Dialect;
 use crate::metal::command::said_command;
 use crate::metal::setting::{Setting, said_setting};
-use gpu_block_session::ascii;
-use gpu_block_session::words::words;
+use crate::metal::stage::Stage;
 use gpu_run::metal::Command;
 use std::alloc::{AllocError, Global};
 
@@ -23,69 +20,51 @@ pub enum Look {
 }
 
 /// What a line says.
-#[derive(Debug, Drop)]
-pub enum Line {
-    /// Nothing: it is empty or a remark.
-    Blank,
-    Configures(Setting),
-    /// The end of the configuration: the allocator is to be made.
-    New,
-    Asks(Command),
-    Looks(Look),
-    /// The end of the trace.
-    Destroy,
-    Bad,
-}
+pub type Line = dialect::Line<Setting, Command, Look>;
 
-/// What a word alone says.
-fn alone(verb: &str, arguments: &[&str]) -> Line
-    ensures { ReadsAlone (verb.now ∷ texts arguments.now) result }
-{
-    let [] = arguments else {
-        return Line::Bad;
-    };
-    match verb {
-        "new" => Line::New,
-        "members" => Line::Looks(Look::Members),
-        "committed" => Line::Looks(Look::Committed),
-        "asked" => Line::Looks(Look::Asked),
-        "destroy" => Line::Destroy,
-        _ => Line::Bad,
-    }
-}
+impl Dialect for Stage {
+    ghost use Rattle.gpu_trace_text.specs.MetalCommand as command;
+    ghost use Rattle.gpu_trace_text.specs.MetalLine.{IsLook};
+    ghost use Rattle.gpu_trace_text.specs.MetalSetting as setting;
+    ghost use Rattle.gpu_trace_text.specs.Spelled.{Spells};
 
-/// What words say.
-fn said(alloc: Global, verb: &str, arguments: &[&str]) -> Result<Line, AllocError>
-    ensures { IfOk result (Reads (verb.now ∷ texts arguments.now)) }
-{
-    if let Some(setting) = said_setting(alloc, verb, arguments)? {
-        return Ok(Line::Configures(setting));
-    }
-    if let Some(command) = said_command(alloc, verb, arguments)? {
-        return Ok(Line::Asks(command));
-    }
-    Ok(alone(verb, arguments))
-}
+    type Setting = Setting;
 
-fn said_by(alloc: Global, line: &str) -> Result<Line, AllocError>
-    ensures { IfOk result (Reads (words_of line.now)) }
-{
-    let words = words(alloc, line)?;
-    match words.as_slice() {
-        [verb, arguments @ ..] => said(alloc, verb, arguments),
-        [] => Ok(Line::Bad),
-    }
-}
+    type Command = Command;
 
-/// Reads a line. Only host memory can be refused.
-pub fn read(alloc: Global, line: &[u8]) -> Result<Line, AllocError>
-    ensures { IfOk result (Means line.now) }
-{
-    let Some(text) = ascii(line) else {
-        return Ok(Line::Bad);
-    };
-    match line {
-        [] | [b'#', ..] => Ok(Line::Blank),
-        _ => said_by(alloc, text),
+    type Other = Look;
+
+    ghost is_setting = { Spells setting.words setting.Fits };
+
+    ghost is_command = { Spells command.words command.Fits };
+
+    ghost is_other = { IsLook };
+
+    fn setting(
+        alloc: Global,
+        verb: &str,
+        arguments: &[&str],
+    ) -> Result<Option<Setting>, AllocError> {
+        said_setting(alloc, verb, arguments)
+    }
+
+    fn command(
+        alloc: Global,
+        verb: &str,
+        arguments: &[&str],
+    ) -> Result<Option<Command>, AllocError> {
+        said_command(alloc, verb, arguments)
+    }
+
+    fn other(_: Global, verb: &str, arguments: &[&str]) -> Result<Option<Look>, AllocError> {
+        let [] = arguments else {
+            return Ok(None);
+        };
+        match verb {
+            "members" => Ok(Some(Look::Members)),
+            "committed" => Ok(Some(Look::Committed)),
+            "asked" => Ok(Some(Look::Asked)),
+            _ => Ok(None),
+        }
     }
 }

@@ -7,7 +7,7 @@ ghost use Rattle.gpu_trace_text.specs.MetalSetting.{words, Fits};
 ghost use Rattle.gpu_trace_text.specs.Spelled.{Says};
 
 use crate::device::setting;
-use crate::device::setting::setting_of;
+use crate::device::setting::shared_setting_of;
 use std::alloc::{AllocError, Global};
 
 /// A configuration line of a Metal trace.
@@ -51,26 +51,6 @@ fn residency(arguments: &[&str]) -> Option<Setting>
     Some(Setting::Residency(yes))
 }
 
-#[tactic(auto, using(crate::proofs::Settings::sizes_shared))]
-fn sizes(alloc: Global, arguments: &[&str]) -> Result<Option<Setting>, AllocError>
-    ensures { IfOk result (λ found. Says words Fits (codes "sizes" ∷ texts arguments.now) found) }
-{
-    match setting_of(alloc, "sizes", arguments)? {
-        Some(setting) => Ok(Some(Setting::Shared(setting))),
-        None => Ok(None),
-    }
-}
-
-#[tactic(auto, using(crate::proofs::Settings::refuse_shared))]
-fn refuse(alloc: Global, arguments: &[&str]) -> Result<Option<Setting>, AllocError>
-    ensures { IfOk result (λ found. Says words Fits (codes "refuse" ∷ texts arguments.now) found) }
-{
-    match setting_of(alloc, "refuse", arguments)? {
-        Some(setting) => Ok(Some(Setting::Shared(setting))),
-        None => Ok(None),
-    }
-}
-
 /// The setting that a line's words say, or `None` where they say none. Only host memory can be refused.
 pub(crate) fn said_setting(
     alloc: Global,
@@ -82,8 +62,9 @@ pub(crate) fn said_setting(
     match verb {
         "sets" => Ok(sets(arguments)),
         "residency" => Ok(residency(arguments)),
-        "sizes" => sizes(alloc, arguments),
-        "refuse" => refuse(alloc, arguments),
-        _ => Ok(None),
+        _ => match shared_setting_of(alloc, verb, arguments)? {
+            Some(setting) => Ok(Some(Setting::Shared(setting))),
+            None => Ok(None),
+        },
     }
 }

@@ -3,13 +3,14 @@
 ghost use Rattle.std.specs.Prelude.{◌≡◌, IfOk};
 ghost use Rattle.gpu_sim_metal.specs.Simulation.{held_of};
 ghost use Rattle.gpu_trace_text.specs.MetalStage.{Begins, Does, IsSound, MatchDone, count_in};
+ghost use Rattle.gpu_trace_text.specs.declared.dialect.Line.TheVariants as lines;
 
 use crate::metal::configuration::Configuration;
-use crate::metal::line::{Line, read};
+use crate::metal::line::Line;
 use crate::metal::looking::look;
 use crate::metal::reply::Reply;
 use crate::metal::setting::Setting;
-use crate::{Outcome, Trace};
+use crate::{Outcome, Trace, read};
 use gpu_device::metal::MTLResidencySet;
 use gpu_metal::{Allocator, AllocatorCreateDesc};
 use gpu_run::metal::{Command, Session};
@@ -73,7 +74,7 @@ fn configure(
     setting: Setting,
 ) -> Result<(Stage, Outcome<Reply>), AllocError>
     ensures { IfOk result (MatchDone (Does (Stage.Configuring configuration)
-        (Line.Configures setting))) }
+        (lines.Configures setting))) }
 {
     if configuration.set(&setting)? {
         Ok((Stage::Configuring(configuration), Outcome::Nothing))
@@ -94,7 +95,7 @@ fn serve_configuring(
         Line::Blank => Ok((Stage::Configuring(configuration), Outcome::Nothing)),
         Line::Configures(setting) => configure(configuration, setting),
         Line::New => Ok(make(alloc, configuration)),
-        Line::Asks(_) | Line::Looks(_) | Line::Destroy | Line::Bad => {
+        Line::Asks(_) | Line::Other(_) | Line::Destroy | Line::Bad => {
             Ok((Stage::Configuring(configuration), Outcome::Bad))
         }
     }
@@ -115,7 +116,7 @@ fn count_in(device: &SimMetal, set: Option<MTLResidencySet>) -> u64
 
 /// Destroys the allocator.
 fn destroy(session: Session<SimMetal>) -> (Stage, Outcome<Reply>)
-    ensures { MatchDone (Does (Stage.Running session) Line.Destroy) result }
+    ensures { MatchDone (Does (Stage.Running session) lines.Destroy) result }
 {
     let set = session.allocator().residency_set().copied();
     let device = session.destroy();
@@ -133,7 +134,7 @@ fn serve_command<L: Log>(
     mut session: Session<SimMetal>,
     command: &Command,
 ) -> (Stage, Outcome<Reply>)
-    ensures { MatchDone (Does (Stage.Running session) (Line.Asks command.now)) result }
+    ensures { MatchDone (Does (Stage.Running session) (lines.Asks command.now)) result }
 {
     let reply = session.serve(log, command);
     show_sound(&session);
@@ -155,7 +156,7 @@ fn serve_running<L: Log>(
     match line {
         Line::Blank => (Stage::Running(session), Outcome::Nothing),
         Line::Asks(command) => serve_command(log, session, &command),
-        Line::Looks(it) => {
+        Line::Other(it) => {
             let reply = look(alloc, &session, it);
             (Stage::Running(session), Outcome::Replied(reply))
         }
@@ -199,7 +200,7 @@ impl Trace for Stage {
         alloc: Global,
         line: &[u8],
     ) -> Result<(Self, Outcome<Reply>), AllocError> {
-        match read(alloc, line) {
+        match read::<Stage>(alloc, line) {
             Ok(line) => serve_line(log, alloc, self, line),
             Err(error) => {
                 self.end(log);

@@ -1,5 +1,0 @@
-use Rattle.gpu_trace_text.proofs.Captured.{budget_reads}
-use Rattle.gpu_trace_text.proofs.laws.budget_reads_back.Goals as goal
-
-pub returns : goal.returns
-returns c = budget_reads
