@@ -111,6 +111,7 @@ impl<D: MetalDevice> Session<D> {
     }
 
     /// At any time the blocks are sound, each number stands for a live allocation, and no two for one piece. It does nothing.
+    #[tactic(auto, using(crate::proofs::MetalServing::kept_at))]
     pub fn numbers_own_their_pieces(&self)
         ensures { SessionInvariant (session_of D.MetalDevice self.now) }
     {

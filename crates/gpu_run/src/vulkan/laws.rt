@@ -15,6 +15,7 @@ ghost use Rattle.gpu_run.specs.VulkanLaws.{NonInterference};
 /// may hold other bytes, all replies are equal but for the bytes that reads give; and a read under a number of ours gives
 /// equal bytes at each place that was written under it since its allocation was given, and at every place, if it was live at the
 /// beginning. That stands although our pieces may lie where others' lay, and then begin with their bytes.
+#[tactic(auto, using(crate::proofs::VulkanNonInterference::non_interference))]
 pub fn two_runs()
     ensures { NonInterference }
 {}

@@ -74,6 +74,7 @@ impl<D: VulkanDevice> Session<D> {
     /// Serves commands one after another, and answers a reply for each. Room for all replies is made first: where it is
     /// refused, the answer is `HostOutOfMemory` and nothing has run. Any later lack of memory is the reply of its command,
     /// which changed nothing but what the device counts of questions that it was asked before.
+    #[tactic(auto, using(crate::proofs::VulkanServing::run_served, crate::proofs::VulkanServing::each_served))]
     pub fn run<L: Log>(&mut self, log: &L, commands: &[Command]) -> Result<Vec<Reply>>
         ensures run { IfOk result (λ replies. IsRun D.VulkanDevice (map command_of commands.now)
             (map reply_of replies.items) self.old self.new) }
@@ -110,6 +111,7 @@ impl<D: VulkanDevice> Session<D> {
 
     /// At any time the blocks are sound, each number stands for a live allocation or a null one, and no two for one piece: the
     /// state from which the laws of sessions speak. It does nothing.
+    #[tactic(auto, using(crate::proofs::VulkanServing::kept_at))]
     pub fn numbers_own_their_pieces(&self)
         ensures { SessionInvariant self.now.allocator.setup (session_of D.VulkanDevice self.now) }
     {

@@ -1,5 +1,0 @@
-use Rattle.std.proofs.Common.{rules}
-use Rattle.gpu_trace_text.proofs.stage.Stage.serve.Goals as goal
-
-pub returns : goal.returns
-returns g c = search rules
