@@ -21,12 +21,13 @@ use Rattle.gpu_trace_text.specs.Ask as ask
 use Rattle.gpu_trace_text.specs.Spelled.{Spells}
 use Rattle.gpu_trace_text.specs.Setting as setting
 use Rattle.gpu_trace_text.specs.Line.{Means}
+use Rattle.gpu_trace_text.specs.Dialect.{new_words, destroy_words}
 use Rattle.gpu_trace_text.specs.Captured.{BeginsWith, FitsCaptured, IsRequest, IsAlloc, IsMove, IsRename}
 use Rattle.gpu_trace_text.specs.declared.device.setting.Setting.{Setting}
 use Rattle.gpu_trace_text.specs.declared.device.setting.Setting.TheVariants.{Heap, MemoryType, Granularity, Sizes, Refuse}
 use Rattle.gpu_trace_text.specs.declared.dialect.Line.TheVariants as lines
 use Rattle.gpu_trace_text.proofs.CapturedWords.{clean_text, clean_location, clean_linear, clean_scheme, clean_budget, clean_refusal, location-one, linear-one, scheme-one, is_name, text_of, budget-one, refusal-one, clean_small, other}
-use Rattle.gpu_trace_text.proofs.Reading.{Words, kinds, sets, tells, asks_line, sets_line}
+use Rattle.gpu_trace_text.proofs.Reading.{Words, kinds, sets, ends, tells, asks_line, sets_line, new_line, destroy_line}
 
 -- ---- words
 
@@ -37,6 +38,10 @@ block_kind c = refl
 command_kind : (c : Command) → kinds (ask.words c) ≡ sets → ⊥
 command_kind (asked.Alloc key q) e = cc
 command_kind c e = cc
+
+command_ends : (c : Command) → kinds (ask.words c) ≡ ends → ⊥
+command_ends (asked.Alloc key q) e = cc
+command_ends c e = cc
 
 pub shared_kind : (s : Setting) → kinds (setting.words s) ≡ sets
 shared_kind (Heap size) = refl
@@ -74,6 +79,7 @@ said = record {
   IsOther = block.Spells;
   setting_kind = shared_kind;
   command_kind = command_kind;
+  command_ends = command_ends;
   other_kind = λ ws c r. ap kinds r.is ∙ block_kind c;
   setting_one = setting_one;
 }
@@ -228,3 +234,11 @@ setting_reads (Sizes device host max_device max_host) rest f =
 setting_reads (Refuse question refusal) rest f =
     sets_line said (Refuse question refusal) (codes "refuse") (decimal question ∷ refusal_word refusal ∷ []) rest refl f
     (clean_text (codes "refuse") refl, (clean_decimal question f.1, (clean_refusal refusal f.2, tt))) (λ e. absurd (omega arith))
+
+-- ---- where configuration and trace end
+
+pub new_reads : (rest : List ℕ) → BeginsWith Means (λ l. l ≡ lines.New) (line_of new_words ++ rest) rest
+new_reads rest = new_line said rest
+
+pub destroy_reads : (rest : List ℕ) → BeginsWith Means (λ l. l ≡ lines.Destroy) (line_of destroy_words ++ rest) rest
+destroy_reads rest = destroy_line said rest

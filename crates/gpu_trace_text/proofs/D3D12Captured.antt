@@ -19,6 +19,7 @@ use Rattle.gpu_trace_text.specs.D3D12Command as command
 use Rattle.gpu_trace_text.specs.Spelled.{Spells}
 use Rattle.gpu_trace_text.specs.D3D12Setting as setting
 use Rattle.gpu_trace_text.specs.D3D12Line.{Means, IsLook, look_words}
+use Rattle.gpu_trace_text.specs.Dialect.{new_words, destroy_words}
 use Rattle.gpu_trace_text.specs.Captured.{BeginsWith}
 use Rattle.gpu_trace_text.specs.D3D12Captured.{FitsCaptured, IsRequest, IsAlloc, IsMove, IsRename, category_of}
 use Rattle.gpu_trace_text.specs.declared.device.setting.Setting.TheVariants as shared
@@ -29,7 +30,7 @@ use Rattle.gpu_trace_text.specs.declared.d3d12.setting.Setting.TheVariants as se
 use Rattle.gpu_trace_text.specs.declared.dialect.Line.TheVariants as lines
 use Rattle.gpu_trace_text.proofs.CapturedWords.{clean_text, clean_location, clean_budget, location-one, budget-one, is_name, text_of, other, clean_refusal}
 use Rattle.gpu_trace_text.proofs.Captured.{setting_one, shared_kind}
-use Rattle.gpu_trace_text.proofs.Reading.{Words, kinds, sets, tells, asks_line, sets_line}
+use Rattle.gpu_trace_text.proofs.Reading.{Words, kinds, sets, ends, tells, asks_line, sets_line, new_line, destroy_line}
 use Rattle.gpu_device.specs.declared.d3d12.types.ResourceHeapTier.TheVariants.{Tier1, Tier2}
 use Rattle.gpu_trace_text.specs.declared.d3d12.setting.Version as versions_of
 use Rattle.gpu_trace_text.specs.declared.d3d12.setting.Version.TheVariants as versions
@@ -46,6 +47,10 @@ use Rattle.gpu_d3d12.specs.declared.category.ResourceCategory.TheVariants as res
 command_kind : (c : Command) → kinds (command.words c) ≡ sets → ⊥
 command_kind (asked.Alloc key q) e = cc
 command_kind c e = cc
+
+command_ends : (c : Command) → kinds (command.words c) ≡ ends → ⊥
+command_ends (asked.Alloc key q) e = cc
+command_ends c e = cc
 
 setting_kind : (s : Setting) → kinds (setting.words s) ≡ sets
 setting_kind (settings.Tier tier) = refl
@@ -89,6 +94,7 @@ said = record {
   IsOther = IsLook;
   setting_kind = setting_kind;
   command_kind = command_kind;
+  command_ends = command_ends;
   other_kind = λ ws l r. ap kinds r ∙ look_kind l;
   setting_one = own_setting_one;
 }
@@ -201,6 +207,18 @@ free_reads n rest small =
     asks_line said (λ l. l ≡ lines.Asks (asked.Free n)) (asked.Free n) (codes "free") (decimal n ∷ []) rest refl refl small
     (clean_text (codes "free") refl, (clean_decimal n small, tt)) (λ e. absurd (omega arith)) (λ d s. ap lines.Asks (free_one n small d s))
 
+release_one : (n : ℕ) → n < 2 ^ 64 → (d : Command) → Spells command.words command.Fits (command.words (asked.Release n)) d → d ≡ asked.Release n
+release_one n small (asked.Release key) s =
+    let i = s.is in
+    let k : decimal key ≡ decimal n = cc in
+    ap asked.Release (decimal_injective key n s.fits small k)
+release_one n small d s = absurd (other s.is refl)
+
+pub release_reads : (n : ℕ) (rest : List ℕ) → n < 2 ^ 64 → BeginsWith Means (λ l. l ≡ lines.Asks (asked.Release n)) (line_of (command.words (asked.Release n)) ++ rest) rest
+release_reads n rest small =
+    asks_line said (λ l. l ≡ lines.Asks (asked.Release n)) (asked.Release n) (codes "release") (decimal n ∷ []) rest refl refl small
+    (clean_text (codes "release") refl, (clean_decimal n small, tt)) (λ e. absurd (omega arith)) (λ d s. ap lines.Asks (release_one n small d s))
+
 budget_one : (t : ℕ) (b : Option ℕ) → t < 2 ^ 64 → FitsBudget b → (d : Command) → Spells command.words command.Fits (command.words (asked.SetBudget t b)) d → d ≡ asked.SetBudget t b
 budget_one t b small f (asked.SetBudget u c) s =
     let i = s.is in
@@ -237,3 +255,11 @@ setting_reads (settings.Shared (shared.Sizes device host max_device max_host)) r
 setting_reads (settings.Shared (shared.Refuse question refusal)) rest f =
     sets_line said (settings.Shared (shared.Refuse question refusal)) (codes "refuse") (decimal question ∷ refusal_word refusal ∷ []) rest refl f (clean_text (codes "refuse") refl, (clean_decimal question f.1.1, (clean_refusal refusal f.1.2, tt))) (λ e. absurd (omega arith))
 setting_reads s rest f = absurd f.0
+
+-- ---- where configuration and trace end
+
+pub new_reads : (rest : List ℕ) → BeginsWith Means (λ l. l ≡ lines.New) (line_of new_words ++ rest) rest
+new_reads rest = new_line said rest
+
+pub destroy_reads : (rest : List ℕ) → BeginsWith Means (λ l. l ≡ lines.Destroy) (line_of destroy_words ++ rest) rest
+destroy_reads rest = destroy_line said rest

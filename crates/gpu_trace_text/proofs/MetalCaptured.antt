@@ -18,6 +18,7 @@ use Rattle.gpu_trace_text.specs.MetalCommand as command
 use Rattle.gpu_trace_text.specs.Spelled.{Spells}
 use Rattle.gpu_trace_text.specs.MetalSetting as setting
 use Rattle.gpu_trace_text.specs.MetalLine.{Means, IsLook, look_words}
+use Rattle.gpu_trace_text.specs.Dialect.{new_words, destroy_words}
 use Rattle.gpu_trace_text.specs.Captured.{BeginsWith}
 use Rattle.gpu_trace_text.specs.MetalCaptured.{FitsCaptured, IsRequest, IsAlloc, IsMove}
 use Rattle.gpu_trace_text.specs.declared.device.setting.Setting.TheVariants as shared
@@ -26,7 +27,7 @@ use Rattle.gpu_trace_text.specs.declared.metal.setting.Setting.TheVariants as se
 use Rattle.gpu_trace_text.specs.declared.dialect.Line.TheVariants as lines
 use Rattle.gpu_trace_text.proofs.CapturedWords.{clean_text, clean_location, clean_budget, location-one, budget-one, is_name, text_of, other, clean_refusal}
 use Rattle.gpu_trace_text.proofs.Captured.{setting_one, shared_kind}
-use Rattle.gpu_trace_text.proofs.Reading.{Words, kinds, sets, tells, asks_line, sets_line}
+use Rattle.gpu_trace_text.proofs.Reading.{Words, kinds, sets, ends, tells, asks_line, sets_line, new_line, destroy_line}
 use Rattle.gpu_trace_text.specs.declared.metal.line.Look.{Look}
 use Rattle.gpu_trace_text.specs.declared.metal.line.Look.TheVariants.{Members}
 use Rattle.gpu_capture.specs.Metal.{yes_word}
@@ -37,6 +38,10 @@ use Rattle.gpu_block_session.proofs.Canonical.{differ}
 command_kind : (c : Command) → kinds (command.words c) ≡ sets → ⊥
 command_kind (asked.Alloc key q) e = cc
 command_kind c e = cc
+
+command_ends : (c : Command) → kinds (command.words c) ≡ ends → ⊥
+command_ends (asked.Alloc key q) e = cc
+command_ends c e = cc
 
 setting_kind : (s : Setting) → kinds (setting.words s) ≡ sets
 setting_kind (settings.Sets b) = refl
@@ -71,6 +76,7 @@ said = record {
   IsOther = IsLook;
   setting_kind = setting_kind;
   command_kind = command_kind;
+  command_ends = command_ends;
   other_kind = λ ws l r. ap kinds r ∙ look_kind l;
   setting_one = own_setting_one;
 }
@@ -191,3 +197,11 @@ setting_reads (settings.Shared (shared.Sizes device host max_device max_host)) r
 setting_reads (settings.Shared (shared.Refuse question refusal)) rest f =
     sets_line said (settings.Shared (shared.Refuse question refusal)) (codes "refuse") (decimal question ∷ refusal_word refusal ∷ []) rest refl f (clean_text (codes "refuse") refl, (clean_decimal question f.1.1, (clean_refusal refusal f.1.2, tt))) (λ e. absurd (omega arith))
 setting_reads s rest f = absurd f.0
+
+-- ---- where configuration and trace end
+
+pub new_reads : (rest : List ℕ) → BeginsWith Means (λ l. l ≡ lines.New) (line_of new_words ++ rest) rest
+new_reads rest = new_line said rest
+
+pub destroy_reads : (rest : List ℕ) → BeginsWith Means (λ l. l ≡ lines.Destroy) (line_of destroy_words ++ rest) rest
+destroy_reads rest = destroy_line said rest

@@ -1,5 +1,5 @@
 -- A line of words that a capture wrote is read as those words alone, in each sort of traces.
-use Rattle.std.proofs.Common.{◌≡◌, refl, sym, ap, ◌∙◌, subst, Bool, true, false, ℕ, List, [], ◌∷◌, ◌++◌}
+use Rattle.std.proofs.Common.{◌≡◌, refl, sym, ap, ◌∙◌, subst, Bool, true, false, ℕ, List, [], ◌∷◌, ◌++◌, arith}
 use Rattle.std.specs.Prelude.{codes}
 use Rattle.std.specs.Str.{IsAscii, bytes_eq}
 use Rattle.gpu_capture.specs.Line.{line_of}
@@ -8,15 +8,17 @@ use Rattle.gpu_block_session.specs.Line.{IsRemark}
 use Rattle.gpu_block_session.specs.Words.{words_of}
 use Rattle.gpu_trace_text.specs.Captured.{BeginsWith}
 use Rattle.gpu_trace_text.specs.Dialect as dialect
+use Rattle.gpu_trace_text.specs.Dialect.{new_words, destroy_words}
 use Rattle.gpu_trace_text.specs.Spelled.{Spells}
 use Rattle.gpu_trace_text.specs.declared.dialect.Line.{Line}
 use Rattle.gpu_trace_text.specs.declared.dialect.Line.TheVariants as lines
-use Rattle.gpu_trace_text.proofs.CapturedWords.{ascii}
+use Rattle.gpu_trace_text.proofs.CapturedWords.{ascii, clean_text, other}
 
--- what a line's first word tells: that a capture's command begins, or a setting, or neither
+-- what a line's first word tells: that a capture's command begins, or a setting, that configuration or trace end, or none of these
 pub data Kind : Type 0 where
   asks : Kind
   sets : Kind
+  ends : Kind
   tells : Kind
 
 abbrev pub choose : Bool → Kind → Kind → Kind
@@ -39,7 +41,11 @@ kind_of w =
     (choose (bytes_eq w (codes "sets")) sets
     (choose (bytes_eq w (codes "residency")) sets
     (choose (bytes_eq w (codes "tier")) sets
-    (choose (bytes_eq w (codes "version")) sets tells))))))))))))))
+    (choose (bytes_eq w (codes "version")) sets
+    (choose (bytes_eq w (codes "release")) asks
+    (choose (bytes_eq w (codes "create")) asks
+    (choose (bytes_eq w (codes "new")) ends
+    (choose (bytes_eq w (codes "destroy")) ends tells))))))))))))))))))
 
 abbrev pub kinds : List (List ℕ) → Kind
 kinds [] = tells
@@ -54,6 +60,7 @@ pub record Words (S C O : Type 0) : Type 1 where
   pub IsOther : List (List ℕ) → O → Type 0
   pub setting_kind : (s : S) → kinds (setting s) ≡ sets
   pub command_kind : (c : C) → kinds (command c) ≡ sets → ⊥
+  pub command_ends : (c : C) → kinds (command c) ≡ ends → ⊥
   pub other_kind : (ws : List (List ℕ)) (o : O) → IsOther ws o → kinds ws ≡ tells
   pub setting_one : (s t : S) → FitsSetting s → FitsSetting t → setting s ≡ setting t → t ≡ s
 
@@ -86,7 +93,7 @@ module _ {S C O : Type 0} (w : Words S C O) where
   asked_only c ws is k f (lines.Asks d) r = (d, refl, r)
   asked_only c ws is k f (lines.Other o) r = let e : asks ≡ tells = sym k ∙ w.other_kind ws o r in cc
   asked_only c ws is k f lines.Bad r = absurd (r.command c (record { is = is; fits = f }))
-  asked_only c ws is k f l r = let e : asks ≡ tells = sym k ∙ ap kinds r in cc
+  asked_only c ws is k f l r = let e : asks ≡ ends = sym k ∙ ap kinds r in cc
 
   -- a line of a command that a capture wrote
   pub asks_line : (Is : Line S C O → Type 0) (c : C) (v : List ℕ) (ws : List (List ℕ)) (rest : List ℕ) → v ∷ ws ≡ w.command c → kind_of v ≡ asks → w.FitsCommand c → AreClean (v ∷ ws)
@@ -100,7 +107,7 @@ module _ {S C O : Type 0} (w : Words S C O) where
   setting_closes s f (lines.Asks c) r = absurd (w.command_kind c (ap kinds (sym r.is) ∙ w.setting_kind s))
   setting_closes s f (lines.Other o) r = let e : sets ≡ tells = sym (w.setting_kind s) ∙ w.other_kind (w.setting s) o r in cc
   setting_closes s f lines.Bad r = absurd (r.setting s (record { is = refl; fits = f }))
-  setting_closes s f l r = let e : sets ≡ tells = sym (w.setting_kind s) ∙ ap kinds r in cc
+  setting_closes s f l r = let e : sets ≡ ends = sym (w.setting_kind s) ∙ ap kinds r in cc
 
   -- a line of the configuration
   pub sets_line : (s : S) (v : List ℕ) (ws : List (List ℕ)) (rest : List ℕ) → w.setting s ≡ v ∷ ws → w.FitsSetting s → AreClean (v ∷ ws) → (IsRemark (joined (v ∷ ws)) → ⊥)
@@ -108,3 +115,29 @@ module _ {S C O : Type 0} (w : Words S C O) where
   sets_line s v ws rest is f clean plain =
       subst (λ (vs : List (List ℕ)). BeginsWith Means (λ l. l ≡ lines.Configures s) (line_of vs ++ rest) rest) (sym is)
       (begins (λ l. l ≡ lines.Configures s) v ws rest clean plain (λ l reads. setting_closes s f l (subst (λ (vs : List (List ℕ)). Reads vs l) (sym is) reads)))
+
+  new_closes : (l : Line S C O) → Reads new_words l → l ≡ lines.New
+  new_closes lines.Blank r = absurd r
+  new_closes (lines.Configures s) r = let e : ends ≡ sets = ap kinds r.is ∙ w.setting_kind s in cc
+  new_closes lines.New r = refl
+  new_closes (lines.Asks c) r = absurd (w.command_ends c (ap kinds (sym r.is)))
+  new_closes (lines.Other o) r = let e : ends ≡ tells = w.other_kind new_words o r in cc
+  new_closes lines.Destroy r = absurd (other r refl)
+  new_closes lines.Bad r = absurd (r.new refl)
+
+  destroy_closes : (l : Line S C O) → Reads destroy_words l → l ≡ lines.Destroy
+  destroy_closes lines.Blank r = absurd r
+  destroy_closes (lines.Configures s) r = let e : ends ≡ sets = ap kinds r.is ∙ w.setting_kind s in cc
+  destroy_closes lines.New r = absurd (other r refl)
+  destroy_closes (lines.Asks c) r = absurd (w.command_ends c (ap kinds (sym r.is)))
+  destroy_closes (lines.Other o) r = let e : ends ≡ tells = w.other_kind destroy_words o r in cc
+  destroy_closes lines.Destroy r = refl
+  destroy_closes lines.Bad r = absurd (r.destroy refl)
+
+  -- the line behind the configuration
+  pub new_line : (rest : List ℕ) → BeginsWith Means (λ l. l ≡ lines.New) (line_of new_words ++ rest) rest
+  new_line rest = begins (λ l. l ≡ lines.New) (codes "new") [] rest (clean_text (codes "new") refl, tt) (λ e. absurd (omega arith)) new_closes
+
+  -- the last line
+  pub destroy_line : (rest : List ℕ) → BeginsWith Means (λ l. l ≡ lines.Destroy) (line_of destroy_words ++ rest) rest
+  destroy_line rest = begins (λ l. l ≡ lines.Destroy) (codes "destroy") [] rest (clean_text (codes "destroy") refl, tt) (λ e. absurd (omega arith)) destroy_closes

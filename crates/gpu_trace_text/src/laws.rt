@@ -7,6 +7,7 @@ ghost use Rattle.gpu_capture.specs.Line.{line_of, name_word};
 ghost use Rattle.gpu_capture.specs.Requests.{alloc_line, move_line};
 ghost use Rattle.gpu_capture.specs.Words.{budget_words, free_words, rename_words};
 ghost use Rattle.gpu_run.specs.declared.vulkan.command.Command.TheVariants.{Free, SetBudget};
+ghost use Rattle.gpu_trace_text.specs.Dialect.{new_words, destroy_words};
 ghost use Rattle.gpu_trace_text.specs.Ask.{FitsBudget};
 ghost use Rattle.gpu_trace_text.specs.Captured.{BeginsWith, FitsCaptured, IsAlloc, IsMove, IsRename};
 ghost use Rattle.gpu_trace_text.specs.Line.{Means};
@@ -61,4 +62,18 @@ pub fn budget_reads_back()
 pub fn setting_reads_back()
     ensures { (s : Setting) (rest : List ℕ) → FitsSetting s
         → BeginsWith Means (λ l. l ≡ lines.Configures s) (line_of (setting_words s) ++ rest) rest }
+{}
+
+/// The end of the configuration.
+#[tactic(auto, using(crate::proofs::Captured::new_reads))]
+pub fn new_reads_back()
+    ensures { (rest : List ℕ) → BeginsWith Means (λ l. l ≡ lines.New)
+        (line_of new_words ++ rest) rest }
+{}
+
+/// The end of the trace.
+#[tactic(auto, using(crate::proofs::Captured::destroy_reads))]
+pub fn destroy_reads_back()
+    ensures { (rest : List ℕ) → BeginsWith Means (λ l. l ≡ lines.Destroy)
+        (line_of destroy_words ++ rest) rest }
 {}

@@ -8,6 +8,7 @@ ghost use Rattle.gpu_capture.specs.Line.{line_of, name_word};
 ghost use Rattle.gpu_capture.specs.Requests.{alloc_line, move_line};
 ghost use Rattle.gpu_capture.specs.Words.{budget_words, free_words, rename_words};
 ghost use Rattle.gpu_run.specs.declared.d3d12.command.Command.TheVariants.{Free, Release, SetBudget};
+ghost use Rattle.gpu_trace_text.specs.Dialect.{new_words, destroy_words};
 ghost use Rattle.gpu_trace_text.specs.Ask.{FitsBudget};
 ghost use Rattle.gpu_trace_text.specs.Captured.{BeginsWith};
 ghost use Rattle.gpu_trace_text.specs.D3D12Captured.{FitsCaptured, IsAlloc, IsMove, IsRename};
@@ -42,6 +43,7 @@ pub fn free_reads_back()
 {}
 
 /// A committed resource's release.
+#[tactic(auto, using(crate::proofs::D3D12Captured::release_reads))]
 pub fn release_reads_back()
     ensures { (number : ℕ) (rest : List ℕ) → number < 2 ^ 64
         → BeginsWith Means (λ l. l ≡ lines.Asks (Release number))
@@ -70,4 +72,18 @@ pub fn budget_reads_back()
 pub fn setting_reads_back()
     ensures { (s : Setting) (rest : List ℕ) → FitsSetting s
         → BeginsWith Means (λ l. l ≡ lines.Configures s) (line_of (setting_words s) ++ rest) rest }
+{}
+
+/// The end of the configuration.
+#[tactic(auto, using(crate::proofs::D3D12Captured::new_reads))]
+pub fn new_reads_back()
+    ensures { (rest : List ℕ) → BeginsWith Means (λ l. l ≡ lines.New)
+        (line_of new_words ++ rest) rest }
+{}
+
+/// The end of the trace.
+#[tactic(auto, using(crate::proofs::D3D12Captured::destroy_reads))]
+pub fn destroy_reads_back()
+    ensures { (rest : List ℕ) → BeginsWith Means (λ l. l ≡ lines.Destroy)
+        (line_of destroy_words ++ rest) rest }
 {}
