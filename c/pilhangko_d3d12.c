@@ -1,6 +1,5 @@
 /* Pilhangko's DirectX 12 binding (include/pilhangko_d3d12.h): compile it with the program, as C11 or as C++11. It asks the driver what the
  * allocator wants to know; the allocator decides all else, and keeps what it decided. */
-#include "pilhangko_d3d12_capture.h"
 #include "pilhangko_d3d12_driver.h"
 #include "pilhangko_shared.h"
 
@@ -77,36 +76,65 @@ static struct live *keep(struct binding *b, pilhangko_d3d12_allocation *allocati
 
 /* ---- captures ---- */
 
-static bool is_captured(const struct binding *b) {
-    return goes_on(&b->capture);
+/* What a call asked the driver: one question at most. */
+struct asked {
+    pilhangko_capture_answer answer;
+    size_t count;
+    HRESULT driver;
+};
+
+/* An answer; null without an error has no code. Returns the code. */
+static int32_t note_answer(struct asked *asked, bool refused, HRESULT driver) {
+    asked->answer.refused = refused;
+    asked->answer.code = driver < 0 ? (int32_t)driver : 0;
+    asked->count = 1;
+    asked->driver = driver;
+    return asked->answer.code;
 }
 
-/* The bounds as they are now, where they are others than those that were written last. Bounds count where something is allocated: one that
- * was changed again before that isn't written. */
-static void capture_new_budgets(struct binding *b) {
-    if (!b->capture.has_new_budgets) return;
-    b->capture.has_new_budgets = false;
-    for (uint32_t i = 0; i < b->type_count && is_captured(b); i++) {
+static void capture_bounds(struct binding *b) {
+    for (size_t i = 0; i < b->type_count && is_captured(&b->capture); i++) {
         pilhangko_budget now;
-        if (pilhangko_heaps_budget(&b->heaps, i, &now) != PILHANGKO_OK) return;
-        capture_budget(&b->capture, i, &now);
+        if (pilhangko_heaps_budget(&b->heaps, i, &now) == PILHANGKO_OK) capture_bound(&b->capture, i, &now);
     }
 }
 
-/* Whether a call with this status has lines of its own. Where host memory was lacking, nothing has changed, and in a replay nothing is
- * lacking; an invalid request may have words that no trace has. */
-static bool begins_lines(struct binding *b, pilhangko_status status) {
-    if (!is_captured(b) || status == PILHANGKO_HOST_OUT_OF_MEMORY || status == PILHANGKO_INVALID) return false;
-    capture_new_budgets(b);
-    return is_captured(b);
+/* The call `allocate`. An allocation is called by its serial number; one that was refused by the next one's. */
+static void capture_allocation(
+    struct binding *b, const pilhangko_heaps_request *request, const char *name, pilhangko_status status, const struct asked *asked) {
+    if (!has_line(&b->capture, status)) return;
+    capture_bounds(b);
+    expect_kept(&b->capture, pilhangko_capture_heaps_allocated(
+        &b->capture.kept, b->last_serial + 1, request, name, &asked->answer, asked->count));
 }
 
-/* Writes the capture with a last line, and forgets it. */
-static pilhangko_d3d12_capture end_capture(struct binding *b, const char *last_line) {
+/* A committed resource. */
+static void capture_committed(
+    struct binding *b, const pilhangko_heaps_request *needs, const char *name, pilhangko_status status, const struct asked *asked) {
+    if (!has_line(&b->capture, status)) return;
+    capture_bounds(b);
+    expect_kept(&b->capture, pilhangko_capture_heaps_committed(
+        &b->capture.kept, b->last_serial + 1, needs, name, &asked->answer, asked->count));
+}
+
+/* The call `propose_move` of the allocation with this serial number, whether there was a second place or none. */
+static void capture_proposal(struct binding *b, uint64_t from, const pilhangko_heaps_request *request, const char *name) {
+    if (!is_captured(&b->capture)) return;
+    capture_bounds(b);
+    expect_kept(&b->capture, pilhangko_capture_heaps_moved(&b->capture.kept, from, b->last_serial + 1, request, name));
+}
+
+static void capture_return(struct binding *b, const struct live *it) {
+    if (!it->is_committed) capture_free(&b->capture, it->serial);
+    else if (is_captured(&b->capture)) expect_kept(&b->capture, pilhangko_capture_released(&b->capture.kept, it->serial));
+}
+
+/* Writes the capture, and ends it. */
+static pilhangko_d3d12_capture end_capture(struct binding *b, bool is_destroyed) {
     struct capture_told ended;
     pilhangko_d3d12_capture told;
-    if (is_captured(b)) capture_new_budgets(b);
-    ended = finish_capture(&b->capture, last_line);
+    capture_bounds(b);
+    ended = finish_capture(&b->capture, is_destroyed);
     told.end = (pilhangko_d3d12_capture_end)ended.end;
     told.bytes = ended.bytes;
     return told;
@@ -121,10 +149,10 @@ static ID3D12Heap *heap_of(uint64_t block) {
 /* Asks the driver for the heap of the question that is open, and tells the answer. */
 static pilhangko_status ask_heap(struct binding *b, struct asked *asked, pilhangko_heaps_progress *progress) {
     ID3D12Heap *heap;
-    asked->has_asked = true;
-    asked->driver = make_heap(b->driver.device, &progress->question, b->heap_flags, &heap);
-    asked->is_refused = asked->driver < 0 || !heap;
-    if (asked->is_refused) return pilhangko_heaps_refused(&b->heaps, asked->driver < 0 ? (int32_t)asked->driver : 0, progress);
+    const HRESULT driver = make_heap(b->driver.device, &progress->question, b->heap_flags, &heap);
+    const bool refused = driver < 0 || !heap;
+    const int32_t code = note_answer(asked, refused, driver);
+    if (refused) return pilhangko_heaps_refused(&b->heaps, code, progress);
     progress->kind = PILHANGKO_PROGRESS_PIECE;
     return pilhangko_heaps_granted(&b->heaps, (uintptr_t)heap, &progress->piece);
 }
@@ -153,14 +181,14 @@ static struct live *keep_piece(struct binding *b, const pilhangko_heaps_piece *p
 static pilhangko_d3d12_result allocate_alone(
     struct binding *b, const pilhangko_heaps_request *request, const char *name, pilhangko_d3d12_allocation *allocation) {
     pilhangko_heaps_progress progress;
-    struct asked asked = {false, false, S_OK};
+    struct asked asked = {{false, 0}, 0, S_OK};
     pilhangko_status status;
     /* before the driver is asked, so that nothing can fail behind its grant */
     if (!has_spare(&b->live)) return undriven(PILHANGKO_HOST_OUT_OF_MEMORY);
     status = pilhangko_heaps_begin(&b->heaps, request, name, &progress);
     if (status == PILHANGKO_OK && progress.kind == PILHANGKO_PROGRESS_QUESTION) status = ask_heap(b, &asked, &progress);
     if (status == PILHANGKO_OK) status = progress.status;
-    if (begins_lines(b, status)) capture_allocation(&b->capture, b->last_serial + 1, request, name, &asked);
+    capture_allocation(b, request, name, status, &asked);
     if (status != PILHANGKO_OK) return refused_by(b->driver.device, status, asked.driver);
     (void)keep_piece(b, &progress.piece, allocation);
     return undriven(PILHANGKO_OK);
@@ -182,7 +210,7 @@ static pilhangko_status free_alone(struct binding *b, const pilhangko_d3d12_allo
     status = it->is_committed ? pilhangko_heaps_forget_committed(&b->heaps, &it->committed)
                               : pilhangko_heaps_free(&b->heaps, &it->piece, &back);
     if (status != PILHANGKO_OK) return status;
-    capture_number(&b->capture, it->is_committed ? "release" : "free", it->serial);
+    capture_return(b, it);
     make_spare(&b->live, allocation->index);
     b->live_count--;
     if (back.exists) release_reference(heap_of(back.block));
@@ -220,7 +248,7 @@ static pilhangko_status propose_alone(struct binding *b, const pilhangko_d3d12_a
     if (!has_spare(&b->live)) return PILHANGKO_HOST_OUT_OF_MEMORY;
     status = pilhangko_heaps_propose_move(&b->heaps, &first.piece, &asks, request->name, moves, &place);
     if (status != PILHANGKO_OK) return status;
-    if (begins_lines(b, status)) capture_move(&b->capture, first.serial, b->last_serial + 1, &asks, request->name);
+    capture_proposal(b, first.serial, &asks, request->name);
     if (!*moves) return PILHANGKO_OK;
     keep_piece(b, &place, to)->word = first.word;
     return PILHANGKO_OK;
@@ -421,12 +449,12 @@ static pilhangko_status ask_committed(
     struct binding *b, const struct wanted *wanted, struct asked *asked, ID3D12Resource **resource, pilhangko_heaps_committed *record) {
     struct place where;
     pilhangko_status status;
+    HRESULT driver;
     memset(&where, 0, sizeof where);
     where.properties = committed_properties(wanted->placement->location);
-    asked->has_asked = true;
-    asked->driver = make_resource(&b->driver, wanted->call, &where, wanted->desc, wanted->placement, resource);
-    asked->is_refused = !*resource;
-    if (!asked->is_refused) return pilhangko_heaps_made(&b->heaps, (uintptr_t)*resource, record);
+    driver = make_resource(&b->driver, wanted->call, &where, wanted->desc, wanted->placement, resource);
+    (void)note_answer(asked, !*resource, driver);
+    if (*resource) return pilhangko_heaps_made(&b->heaps, (uintptr_t)*resource, record);
     status = pilhangko_heaps_not_made(&b->heaps);
     if (status == PILHANGKO_OK) status = PILHANGKO_D3D12_CALL_FAILED;
     return status;
@@ -436,13 +464,13 @@ static pilhangko_d3d12_result create_committed_alone(
     struct binding *b, const struct wanted *wanted, ID3D12Resource **resource, pilhangko_d3d12_allocation *allocation) {
     const pilhangko_heaps_request *needs = &wanted->needs;
     pilhangko_heaps_committed record;
-    struct asked asked = {false, false, S_OK};
+    struct asked asked = {{false, 0}, 0, S_OK};
     pilhangko_status status;
     struct live *it;
     if (!has_spare(&b->live)) return undriven(PILHANGKO_HOST_OUT_OF_MEMORY);
     status = pilhangko_heaps_begin_committed(&b->heaps, needs->size, needs->location, needs->category);
     if (status == PILHANGKO_OK) status = ask_committed(b, wanted, &asked, resource, &record);
-    if (begins_lines(b, status)) capture_committed(&b->capture, b->last_serial + 1, needs, wanted->placement->name, &asked);
+    capture_committed(b, needs, wanted->placement->name, status, &asked);
     if (status != PILHANGKO_OK) return refused_by(b->driver.device, status, asked.driver);
     it = keep(b, allocation);
     it->is_committed = true;
@@ -571,13 +599,6 @@ pilhangko_status PILHANGKO_CALL pilhangko_d3d12_read_group(const pilhangko_d3d12
     return PILHANGKO_OK;
 }
 
-/* Between enter and leave. */
-static pilhangko_status set_budget(struct binding *b, uint32_t memory_type, bool has_budget, UINT64 bytes) {
-    const pilhangko_status status = pilhangko_heaps_set_budget(&b->heaps, memory_type, has_budget, bytes);
-    if (status == PILHANGKO_OK) b->capture.has_new_budgets = true;
-    return status;
-}
-
 /* Sets the bound of each memory type to what its group still gives, between enter and leave: no heap comes or goes meanwhile. */
 static pilhangko_status follow_adapter(struct binding *b) {
     struct video_memory_info info[GROUPS];
@@ -586,7 +607,7 @@ static pilhangko_status follow_adapter(struct binding *b) {
     for (uint32_t i = 0; i < b->type_count && status == PILHANGKO_OK; i++) {
         const struct video_memory_info *of = &info[group_of(b, i)];
         const UINT64 left = of->budget > of->usage ? of->budget - of->usage : 0, held = held_of_type(b, i);
-        status = set_budget(b, i, true, left <= UINT64_MAX - held ? held + left : UINT64_MAX);
+        status = pilhangko_heaps_set_budget(&b->heaps, i, true, left <= UINT64_MAX - held ? held + left : UINT64_MAX);
     }
     return status;
 }
@@ -609,7 +630,7 @@ pilhangko_status PILHANGKO_CALL pilhangko_d3d12_set_budget(
     if (!d3d12) return PILHANGKO_NULL_POINTER;
     if (!d3d12->opaque) return PILHANGKO_NO_HANDLE;
     b = enter(binding_of(d3d12));
-    status = set_budget(b, memory_type, has_budget, bytes);
+    status = pilhangko_heaps_set_budget(&b->heaps, memory_type, has_budget, bytes);
     leave(b);
     return status;
 }
@@ -646,7 +667,6 @@ static void keep_settings(struct binding *b, const pilhangko_d3d12_settings *set
     b->heap_flags = settings->heap_flags;
     b->is_locked_outside = settings->externally_synchronized;
     begin_table(&b->live, sizeof(struct live));
-    b->capture.end = settings->capture_write ? CAPTURE_WHOLE : CAPTURE_NONE;
     b->capture.write = settings->capture_write;
     b->capture.user = settings->capture_user;
 }
@@ -660,12 +680,13 @@ static pilhangko_d3d12_result begin_binding(struct binding *b, const pilhangko_d
     status = pilhangko_heaps_create(&b->heaps, &s);
     if (status != PILHANGKO_OK) return undriven(status);
     status = pilhangko_heaps_type_count(&b->heaps, &b->type_count);
+    if (status == PILHANGKO_OK && is_captured(&b->capture)) status = pilhangko_capture_of_heaps(&b->capture.kept, &s);
     if (status == PILHANGKO_OK && !make_mutex(&b->lock)) status = PILHANGKO_HOST_OUT_OF_MEMORY;
     if (status != PILHANGKO_OK) {
+        drop_capture(&b->capture);
         (void)pilhangko_heaps_destroy(&b->heaps);
         return undriven(status);
     }
-    if (is_captured(b)) capture_device(&b->capture, &s);
     find_newest(&b->driver);
     b->over.version = b->driver.version;
     b->over.is_unified = tells_unified(settings->device);
@@ -694,8 +715,8 @@ pilhangko_status PILHANGKO_CALL pilhangko_d3d12_end_capture(pilhangko_d3d12 *d3d
     if (!d3d12 || !capture) return PILHANGKO_NULL_POINTER;
     if (!d3d12->opaque) return PILHANGKO_NO_HANDLE;
     b = enter(binding_of(d3d12));
-    if (b->capture.end == CAPTURE_NONE) status = PILHANGKO_D3D12_NO_CAPTURE;
-    else *capture = end_capture(b, "");
+    if (!is_captured(&b->capture)) status = PILHANGKO_D3D12_NO_CAPTURE;
+    else *capture = end_capture(b, false);
     leave(b);
     return status;
 }
@@ -725,7 +746,7 @@ pilhangko_status PILHANGKO_CALL pilhangko_d3d12_destroy(pilhangko_d3d12 *d3d12, 
     b = binding_of(d3d12);
     if (!b) return PILHANGKO_NO_HANDLE;
     told.leaks = b->live_count;
-    told.capture = end_capture(b, "destroy\n");
+    told.capture = end_capture(b, true);
     release_all(b);
     (void)pilhangko_heaps_destroy(&b->heaps);
     free(b->live.records);

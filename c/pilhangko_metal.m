@@ -1,7 +1,6 @@
 /* Pilhangko's Metal binding (include/pilhangko_metal.h): compile it with the program, as Objective-C, with ARC or without. It asks the
  * device what the allocator wants to know; the allocator decides all else, and keeps what it decided. */
 #include "pilhangko_metal.h"
-#include "pilhangko_capture.h"
 #include "pilhangko_shared.h"
 
 #define NAMED(rest) pilhangko_metal##rest
@@ -111,76 +110,42 @@ static void keep_allocation(struct binding *b, const pilhangko_heaps_piece *piec
 
 /* ---- captures ---- */
 
-static bool is_captured(const struct binding *b) {
-    return goes_on(&b->capture);
-}
+/* What a call asked the device: for one heap at most. */
+struct asked {
+    pilhangko_capture_answer answer;
+    size_t count;
+};
 
-/* A residency set is question 1. */
-static void capture_device(struct binding *b, const pilhangko_metal_heaps_settings *s) {
-    char line[LINE_ROOM];
-    if (!is_captured(b)) return;
-    snprintf(line, sizeof line, "metal\nresidency %s\nsizes %" PRIu64 " %" PRIu64 " %" PRIu64 " %" PRIu64 "\n",
-        s->has_residency_set ? "yes" : "no", s->device_block_size, s->host_block_size, s->largest_device_block_size,
-        s->largest_host_block_size);
-    capture_lines(&b->capture, line, "");
-    b->capture.questions = s->has_residency_set;
-}
-
-/* The bounds as they are now, where they are others than those that were written last. Bounds count where something is allocated: one that
- * was changed again before that isn't written. */
-static void capture_new_budgets(struct binding *b) {
+static void capture_bounds(struct binding *b) {
     pilhangko_type_statistics type;
-    if (!b->capture.has_new_budgets) return;
-    b->capture.has_new_budgets = false;
-    for (uint32_t i = 0; pilhangko_metal_heaps_type_statistics(&b->heaps, i, &type) == PILHANGKO_OK; i++) {
+    for (size_t i = 0; is_captured(&b->capture) && pilhangko_metal_heaps_type_statistics(&b->heaps, i, &type) == PILHANGKO_OK; i++) {
         const pilhangko_budget now = {type.has_budget, type.budget};
-        capture_budget(&b->capture, i, &now);
+        capture_bound(&b->capture, i, &now);
     }
 }
 
-/* What a call asked the device: whether it asked for a heap, and was refused. */
-struct asked {
-    bool has_asked, is_refused;
-};
-
-/* A request in a trace's words. */
-static const char *trace_request(const pilhangko_metal_request *request, char *words, size_t room) {
-    char word[NAME_ROOM + 1];
-    snprintf(words, room, "%" PRIu64 " %" PRIu64 " %s %s", request->size, request->alignment, trace_location(request->location),
-        trace_name(request->name, word));
-    return words;
-}
-
-/* The call `allocate`: what it asked for, and what the device refused. Where host memory was lacking, nothing has changed, and in a replay
- * nothing is lacking; an invalid request may have words that no trace has. An allocation is called by its serial number; one that was
- * refused by the next one's. */
-static void capture_allocation(
-    struct binding *b, const pilhangko_metal_request *request, pilhangko_status status, const struct asked *asked) {
-    char line[LINE_ROOM], refusal[LINE_ROOM] = "", words[REQUEST_ROOM];
-    if (!is_captured(b) || status == PILHANGKO_HOST_OUT_OF_MEMORY || status == PILHANGKO_INVALID) return;
-    capture_new_budgets(b);
-    if (!is_captured(b)) return;
-    snprintf(line, sizeof line, "alloc %" PRIu64 " %s\n", b->last_serial + 1, trace_request(request, words, sizeof words));
-    if (asked->is_refused) trace_refusal(refusal, sizeof refusal, b->capture.questions + 1, true, 0);
-    capture_lines(&b->capture, refusal, line);
-    b->capture.questions += asked->has_asked;
+/* The call `allocate`. An allocation is called by its serial number; one that was refused by the next one's. */
+static void capture_allocation(struct binding *b, const pilhangko_metal_heaps_request *request, const char *name, pilhangko_status status,
+    const struct asked *asked) {
+    if (!has_line(&b->capture, status)) return;
+    capture_bounds(b);
+    expect_kept(&b->capture, pilhangko_capture_metal_heaps_allocated(
+        &b->capture.kept, b->last_serial + 1, request, name, &asked->answer, asked->count));
 }
 
 /* The call `propose_move` of the allocation with this serial number, whether there was a second place or none. */
-static void capture_move(struct binding *b, uint64_t from, const pilhangko_metal_request *request) {
-    char line[LINE_ROOM], words[REQUEST_ROOM];
-    if (is_captured(b)) capture_new_budgets(b);
-    if (!is_captured(b)) return;
-    snprintf(line, sizeof line, "move %" PRIu64 " %" PRIu64 " %s\n", from, b->last_serial + 1, trace_request(request, words, sizeof words));
-    capture_lines(&b->capture, "", line);
+static void capture_proposal(struct binding *b, uint64_t from, const pilhangko_metal_heaps_request *request, const char *name) {
+    if (!is_captured(&b->capture)) return;
+    capture_bounds(b);
+    expect_kept(&b->capture, pilhangko_capture_metal_heaps_moved(&b->capture.kept, from, b->last_serial + 1, request, name));
 }
 
-/* Writes the capture with a last line, and forgets it. */
-static pilhangko_metal_capture end_capture(struct binding *b, const char *last_line) {
+/* Writes the capture, and ends it. */
+static pilhangko_metal_capture end_capture(struct binding *b, bool is_destroyed) {
     struct capture_told ended;
     pilhangko_metal_capture told;
-    if (is_captured(b)) capture_new_budgets(b);
-    ended = finish_capture(&b->capture, last_line);
+    capture_bounds(b);
+    ended = finish_capture(&b->capture, is_destroyed);
     told.end = (pilhangko_metal_capture_end)ended.end;
     told.bytes = ended.bytes;
     return told;
@@ -214,8 +179,8 @@ static pilhangko_status ask_heap(struct binding *b, struct asked *asked, pilhang
     id<MTLHeap> heap = make_heap(b, &progress->question);
     pilhangko_metal_heaps_grant grant;
     pilhangko_status status;
-    asked->has_asked = true;
-    asked->is_refused = !heap;
+    asked->answer.refused = !heap;
+    asked->count = 1;
     if (!heap) return pilhangko_metal_heaps_refused(&b->heaps, progress);
     status = pilhangko_metal_heaps_granted(&b->heaps, KEPT(heap), &grant);
     if (status != PILHANGKO_OK) return status;
@@ -238,7 +203,7 @@ static pilhangko_status allocate_alone(
     struct binding *b, const pilhangko_metal_request *request, pilhangko_metal_allocation *allocation) {
     pilhangko_metal_heaps_request asks;
     pilhangko_metal_heaps_progress progress;
-    struct asked asked = {false, false};
+    struct asked asked = {{false, 0}, 0};
     pilhangko_status status;
     /* before the device is asked, so that nothing can fail behind its grant */
     if (!has_spare(&b->live)) return PILHANGKO_HOST_OUT_OF_MEMORY;
@@ -246,7 +211,7 @@ static pilhangko_status allocate_alone(
     status = pilhangko_metal_heaps_begin(&b->heaps, &asks, request->name, &progress);
     if (status == PILHANGKO_OK && progress.kind == PILHANGKO_PROGRESS_QUESTION) status = ask_heap(b, &asked, &progress);
     if (status == PILHANGKO_OK) status = progress.status;
-    capture_allocation(b, request, status, &asked);
+    capture_allocation(b, &asks, request->name, status, &asked);
     if (status == PILHANGKO_OK) keep_allocation(b, &progress.piece, allocation);
     return status;
 }
@@ -272,7 +237,7 @@ static pilhangko_status free_alone(struct binding *b, const pilhangko_metal_allo
     if (!it) return PILHANGKO_NOT_LIVE;
     status = pilhangko_metal_heaps_free(&b->heaps, &it->piece, &back);
     if (status != PILHANGKO_OK) return status;
-    capture_number(&b->capture, "free", it->serial);
+    capture_free(&b->capture, it->serial);
     make_spare(&b->live, allocation->index);
     b->live_count--;
     if (back.exists) give_back(b, &back);
@@ -310,7 +275,7 @@ static pilhangko_status propose_alone(struct binding *b, const pilhangko_metal_a
     if (!has_spare(&b->live)) return PILHANGKO_HOST_OUT_OF_MEMORY;
     status = pilhangko_metal_heaps_propose_move(&b->heaps, &first.piece, &asks, request->name, moves, &place);
     if (status != PILHANGKO_OK) return status;
-    capture_move(b, first.serial, request);
+    capture_proposal(b, first.serial, &asks, request->name);
     if (!*moves) return PILHANGKO_OK;
     keep_allocation(b, &place, to);
     ((struct live *)record_of(&b->live, to->index))->word = first.word;
@@ -588,7 +553,7 @@ pilhangko_status PILHANGKO_CALL pilhangko_metal_commit(pilhangko_metal *metal) {
     if (!metal->opaque) return PILHANGKO_NO_HANDLE;
     b = enter(binding_of(metal));
     [set_of(b) commit];
-    if (is_captured(b)) capture_lines(&b->capture, "", "commit\n");
+    if (is_captured(&b->capture)) expect_kept(&b->capture, pilhangko_capture_set_committed(&b->capture.kept));
     leave(b);
     return PILHANGKO_OK;
 }
@@ -604,13 +569,6 @@ pilhangko_status PILHANGKO_CALL pilhangko_metal_read_memory(const pilhangko_meta
     return PILHANGKO_OK;
 }
 
-/* Between enter and leave. */
-static pilhangko_status set_budget(struct binding *b, uint32_t memory_type, bool has_budget, uint64_t bytes) {
-    const pilhangko_status status = pilhangko_metal_heaps_set_budget(&b->heaps, memory_type, has_budget, bytes);
-    if (status == PILHANGKO_OK) b->capture.has_new_budgets = true;
-    return status;
-}
-
 /* Sets the bound of each memory type to what the device still gives, between enter and leave: no heap comes or goes meanwhile. */
 static pilhangko_status follow_device(struct binding *b) {
     const uint64_t usage = [device_of(b) currentAllocatedSize], budget = [device_of(b) recommendedMaxWorkingSetSize];
@@ -618,7 +576,7 @@ static pilhangko_status follow_device(struct binding *b) {
     pilhangko_status status = PILHANGKO_OK;
     uint64_t held;
     for (uint32_t i = 0; status == PILHANGKO_OK && pilhangko_metal_heaps_type_capacity(&b->heaps, i, &held) == PILHANGKO_OK; i++)
-        status = set_budget(b, i, true, left <= UINT64_MAX - held ? held + left : UINT64_MAX);
+        status = pilhangko_metal_heaps_set_budget(&b->heaps, i, true, left <= UINT64_MAX - held ? held + left : UINT64_MAX);
     return status;
 }
 
@@ -640,7 +598,7 @@ pilhangko_status PILHANGKO_CALL pilhangko_metal_set_budget(
     if (!metal) return PILHANGKO_NULL_POINTER;
     if (!metal->opaque) return PILHANGKO_NO_HANDLE;
     b = enter(binding_of(metal));
-    status = set_budget(b, memory_type, has_budget, bytes);
+    status = pilhangko_metal_heaps_set_budget(&b->heaps, memory_type, has_budget, bytes);
     leave(b);
     return status;
 }
@@ -674,7 +632,6 @@ static void keep_settings(struct binding *b, const pilhangko_metal_settings *set
     b->device = RETAINED(settings->device);
     begin_table(&b->live, sizeof(struct live));
     b->is_locked_outside = settings->externally_synchronized;
-    b->capture.end = settings->capture_write ? CAPTURE_WHOLE : CAPTURE_NONE;
     b->capture.write = settings->capture_write;
     b->capture.user = settings->capture_user;
 }
@@ -693,25 +650,24 @@ static uintptr_t make_set(id<MTLDevice> device) {
 /* Gives back what a binding without heaps holds. */
 static void forget(struct binding *b) {
     (void)pilhangko_metal_heaps_destroy(&b->heaps);
-    forget_text(&b->capture.device);
+    drop_capture(&b->capture);
     if (b->set) LET_GO(b->set);
     LET_GO(b->device);
     free(b->live.records);
     free(b);
 }
 
-/* Makes the allocator, the lock and the residency set. */
+/* Makes the allocator, its capture, the residency set and the lock. */
 static pilhangko_status begin_binding(struct binding *b, const pilhangko_metal_settings *settings) {
     const pilhangko_metal_heaps_settings s = heaps_settings(settings);
     pilhangko_status status;
     keep_settings(b, settings);
     status = pilhangko_metal_heaps_create(&b->heaps, &s);
+    if (status == PILHANGKO_OK && is_captured(&b->capture)) status = pilhangko_capture_of_metal_heaps(&b->capture.kept, &s);
     if (status != PILHANGKO_OK) return status;
     if (s.has_residency_set) b->set = make_set(settings->device);
     if (s.has_residency_set && !b->set) return PILHANGKO_DRIVER_REFUSED;
-    if (!make_mutex(&b->lock)) return PILHANGKO_HOST_OUT_OF_MEMORY;
-    capture_device(b, &s);
-    return PILHANGKO_OK;
+    return make_mutex(&b->lock) ? PILHANGKO_OK : PILHANGKO_HOST_OUT_OF_MEMORY;
 }
 
 pilhangko_status PILHANGKO_CALL pilhangko_metal_create(pilhangko_metal *metal, const pilhangko_metal_settings *settings) {
@@ -736,8 +692,8 @@ pilhangko_status PILHANGKO_CALL pilhangko_metal_end_capture(pilhangko_metal *met
     if (!metal || !capture) return PILHANGKO_NULL_POINTER;
     if (!metal->opaque) return PILHANGKO_NO_HANDLE;
     b = enter(binding_of(metal));
-    if (b->capture.end == CAPTURE_NONE) status = PILHANGKO_METAL_NO_CAPTURE;
-    else *capture = end_capture(b, "");
+    if (!is_captured(&b->capture)) status = PILHANGKO_METAL_NO_CAPTURE;
+    else *capture = end_capture(b, false);
     leave(b);
     return status;
 }
@@ -758,7 +714,7 @@ pilhangko_status PILHANGKO_CALL pilhangko_metal_destroy(pilhangko_metal *metal, 
     b = binding_of(metal);
     if (!b) return PILHANGKO_NO_HANDLE;
     told.leaks = b->live_count;
-    told.capture = end_capture(b, "destroy\n");
+    told.capture = end_capture(b, true);
     give_back_all(b);
     drop_mutex(&b->lock);
     forget(b);

@@ -1,4 +1,4 @@
-/* What Pilhangko's bindings share: a lock, the numbers of a process's bindings, and records. Not for their users. */
+/* What Pilhangko's bindings share: a lock, the numbers of a process's bindings, records, and captures. Not for their users. */
 #ifndef PILHANGKO_SHARED_H
 #define PILHANGKO_SHARED_H
 #include "pilhangko.h"
@@ -117,6 +117,79 @@ static inline uint32_t spare_record(struct table *table) {
     const uint32_t index = table->spare;
     table->spare = *(uint32_t *)record_of(table, index);
     return index;
+}
+
+/* ---- captures ---- */
+
+/* A capture, and where its text goes at its end. */
+struct capture {
+    pilhangko_capture kept;
+    bool(PILHANGKO_CALL *write)(void *user, const char *bytes, size_t length); /* NULL where there is no capture */
+    void *user;
+};
+
+static inline bool is_captured(const struct capture *c) {
+    return c->write != NULL;
+}
+
+static inline void drop_capture(struct capture *c) {
+    if (is_captured(c)) (void)pilhangko_capture_destroy(&c->kept);
+    c->write = NULL;
+}
+
+/* Behind each call that a capture is to have. The library keeps all that an allocator took; a capture that lacks a call would tell of another
+ * run. */
+static inline void expect_kept(struct capture *c, pilhangko_status status) {
+    if (status != PILHANGKO_OK) drop_capture(c);
+}
+
+/* Whether a call with this status is to be in the capture. Where host memory was lacking, nothing has changed, and in a replay nothing is
+ * lacking; an invalid request may have words that no trace has. */
+static inline bool has_line(const struct capture *c, pilhangko_status status) {
+    return is_captured(c) && status != PILHANGKO_HOST_OUT_OF_MEMORY && status != PILHANGKO_INVALID;
+}
+
+static inline void capture_free(struct capture *c, uint64_t serial) {
+    if (is_captured(c)) expect_kept(c, pilhangko_capture_freed(&c->kept, serial));
+}
+
+static inline void capture_rename(struct capture *c, uint64_t serial, const char *name) {
+    if (is_captured(c)) expect_kept(c, pilhangko_capture_renamed(&c->kept, serial, name));
+}
+
+/* Bounds count where something is allocated: one that was changed again before that is in no capture. */
+static inline void capture_bound(struct capture *c, size_t memory_type, const pilhangko_budget *bound) {
+    if (is_captured(c)) expect_kept(c, pilhangko_capture_bounded(&c->kept, memory_type, bound->exists, bound->bytes));
+}
+
+/* What is told of a capture at its end: the numbers of each binding's pilhangko_.._capture_end, of which these are no pilhangko_capture_end. */
+enum { CAPTURE_NONE = 0, CAPTURE_NOT_WRITTEN = 4 };
+struct capture_told {
+    uint32_t end;
+    size_t bytes; /* those that were taken */
+};
+
+/* Hands the text to the caller, until it refuses some; false where it did. */
+static inline bool write_text(const struct capture *c, bool is_destroyed, size_t *taken) {
+    char part[4096];
+    size_t count = sizeof part;
+    while (count > 0) {
+        if (pilhangko_capture_text(&c->kept, is_destroyed, *taken, part, sizeof part, &count) != PILHANGKO_OK) return false;
+        if (count > 0 && !c->write(c->user, part, count)) return false;
+        *taken += count;
+    }
+    return true;
+}
+
+/* Writes the capture, if there is one, and ends it. */
+static inline struct capture_told finish_capture(struct capture *c, bool is_destroyed) {
+    struct capture_told told = {CAPTURE_NONE, 0};
+    pilhangko_capture_end end;
+    if (!is_captured(c) || pilhangko_capture_how_far(&c->kept, &end) != PILHANGKO_OK) return told;
+    told.end = (uint32_t)end;
+    if (!write_text(c, is_destroyed, &told.bytes)) told.end = CAPTURE_NOT_WRITTEN;
+    drop_capture(c);
+    return told;
 }
 
 #endif

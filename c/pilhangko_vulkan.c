@@ -4,10 +4,6 @@
 
 /* ---- captures ---- */
 
-static bool is_captured(const struct binding *b) {
-    return goes_on(&b->capture);
-}
-
 /* The lesser of a bound and so many bytes. */
 static void lower(pilhangko_budget *bound, VkDeviceSize bytes) {
     if (!bound->exists || bytes < bound->bytes) bound->bytes = bytes;
@@ -31,35 +27,72 @@ static void tell_bounds(const struct binding *b, pilhangko_budget *bounds) {
     }
 }
 
+static void capture_bounds(struct binding *b, const pilhangko_budget *bounds) {
+    for (uint32_t i = 0; i < b->common->properties.memoryTypeCount; i++) capture_bound(&b->capture, i, &bounds[i]);
+}
+
+/* The same as they are now. */
+static void capture_bounds_now(struct binding *b) {
+    pilhangko_budget bounds[VK_MAX_MEMORY_TYPES];
+    if (!is_captured(&b->capture)) return;
+    tell_bounds(b, bounds);
+    capture_bounds(b, bounds);
+}
+
+/* How many answers a captured call has at most: its binding has no smaller blocks, so it makes two attempts, each with a question for memory
+ * and one for its mapping. */
+#define MOST_ANSWERS 4
+
+/* What a call asked the driver. */
+struct asked {
+    pilhangko_capture_answer answers[MOST_ANSWERS];
+    size_t count;
+    VkResult driver; /* the last code of a refusal */
+};
+
+/* An answer; null without an error has VK_SUCCESS. */
+static void note_answer(struct asked *asked, bool refused, VkResult driver) {
+    if (driver != VK_SUCCESS) asked->driver = driver;
+    if (asked->count == MOST_ANSWERS) return;
+    asked->answers[asked->count].refused = refused;
+    asked->answers[asked->count++].code = (int32_t)driver;
+}
+
+/* Questions of attempts that are over, where only the last one's are captured. */
+static void forget_questions(struct asked *asked) {
+    asked->count = 0;
+}
+
+static bool is_refused_last(const struct asked *asked) {
+    return asked->count > 0 && asked->answers[asked->count - 1].refused;
+}
+
 /* The call `allocate`, before which these were the bounds. An allocation is called by its serial number; one that was refused by the next one's.
  * One that flags chose the memory for is one of its memory type alone; where it was refused it changed nothing, and isn't captured. */
 static void capture_call(struct binding *b, const struct wanted *wanted, const pilhangko_budget *bounds, pilhangko_status status, size_t type,
     const struct asked *asked) {
     pilhangko_allocator_request asks = wanted->asks;
-    if (!is_captured(b) || status == PILHANGKO_HOST_OUT_OF_MEMORY || status == PILHANGKO_INVALID) return;
-    if (wanted->by_flags && status != PILHANGKO_OK) return;
+    if (!has_line(&b->capture, status) || (wanted->by_flags && status != PILHANGKO_OK)) return;
     if (wanted->by_flags) asks.memory_type_bits = UINT32_C(1) << type;
-    capture_bounds(&b->capture, bounds, b->common->properties.memoryTypeCount);
-    capture_allocation(&b->capture, b->last_serial + 1, &asks, wanted->name, asked);
+    capture_bounds(b, bounds);
+    expect_kept(&b->capture, pilhangko_capture_allocator_allocated(
+        &b->capture.kept, b->last_serial + 1, &asks, wanted->name, asked->answers, asked->count));
 }
 
 /* The call `propose_move` of the allocation with this serial number, whether there was a second place or none. */
 static void capture_proposal(struct binding *b, uint64_t from, const struct wanted *wanted) {
-    pilhangko_budget bounds[VK_MAX_MEMORY_TYPES];
-    if (!is_captured(b)) return;
-    tell_bounds(b, bounds);
-    capture_bounds(&b->capture, bounds, b->common->properties.memoryTypeCount);
-    capture_move(&b->capture, from, b->last_serial + 1, &wanted->asks, wanted->name);
+    if (!is_captured(&b->capture)) return;
+    capture_bounds_now(b);
+    expect_kept(&b->capture,
+        pilhangko_capture_allocator_moved(&b->capture.kept, from, b->last_serial + 1, &wanted->asks, wanted->name));
 }
 
-/* Writes the capture with a last line, and forgets it. */
-static pilhangko_vulkan_capture end_capture(struct binding *b, const char *last_line) {
-    pilhangko_budget bounds[VK_MAX_MEMORY_TYPES];
+/* Writes the capture, and ends it. */
+static pilhangko_vulkan_capture end_capture(struct binding *b, bool is_destroyed) {
     struct capture_told ended;
     pilhangko_vulkan_capture told;
-    if (is_captured(b)) tell_bounds(b, bounds);
-    if (is_captured(b)) capture_bounds(&b->capture, bounds, b->common->properties.memoryTypeCount);
-    ended = finish_capture(&b->capture, last_line);
+    capture_bounds_now(b);
+    ended = finish_capture(&b->capture, is_destroyed);
     told.end = (pilhangko_vulkan_capture_end)ended.end;
     told.bytes = ended.bytes;
     return told;
@@ -105,21 +138,15 @@ static VkResult ask_memory(
     return b->common->over.functions->vkAllocateMemory(b->common->over.device, &info, b->common->over.allocation_callbacks, memory);
 }
 
-static pilhangko_status memory_refused(
-    struct binding *b, struct asked *asked, VkResult driver, VkDeviceMemory memory, pilhangko_allocator_progress *progress) {
-    bool is_null = driver == VK_SUCCESS && memory == VK_NULL_HANDLE;
-    int32_t code = is_null ? VK_ERROR_OUT_OF_DEVICE_MEMORY : driver;
-    note_refusal(asked, is_null, code, driver);
-    return pilhangko_allocator_refused(&b->allocator, code, progress);
+static pilhangko_status memory_refused(struct binding *b, VkResult driver, pilhangko_allocator_progress *progress) {
+    return pilhangko_allocator_refused(&b->allocator, driver == VK_SUCCESS ? VK_ERROR_OUT_OF_DEVICE_MEMORY : driver, progress);
 }
 
 static pilhangko_status mapping_refused(
-    struct binding *b, struct asked *asked, VkResult driver, VkDeviceMemory memory, pilhangko_allocator_progress *progress) {
-    bool has_code = driver != VK_SUCCESS;
+    struct binding *b, VkResult driver, VkDeviceMemory memory, pilhangko_allocator_progress *progress) {
     /* unmaps it too, where a null address is a mapping to the driver */
     b->common->over.functions->vkFreeMemory(b->common->over.device, memory, b->common->over.allocation_callbacks);
-    note_refusal(asked, !has_code, driver, driver);
-    return pilhangko_allocator_mapping_refused(&b->allocator, has_code, driver, progress);
+    return pilhangko_allocator_mapping_refused(&b->allocator, driver != VK_SUCCESS, driver, progress);
 }
 
 /* Asks the driver the question that is open, and tells the answer. */
@@ -130,12 +157,14 @@ static pilhangko_status ask(
     VkDeviceMemory memory;
     pilhangko_status status;
     VkResult driver = ask_memory(b, wanted, &question, &memory);
-    asked->questions++;
-    if (driver != VK_SUCCESS || memory == VK_NULL_HANDLE) return memory_refused(b, asked, driver, memory, progress);
+    bool refused = driver != VK_SUCCESS || memory == VK_NULL_HANDLE;
+    note_answer(asked, refused, driver);
+    if (refused) return memory_refused(b, driver, progress);
     if (question.mapped) {
         driver = b->common->over.functions->vkMapMemory(b->common->over.device, memory, 0, VK_WHOLE_SIZE, 0, &mapped);
-        asked->questions++;
-        if (driver != VK_SUCCESS || !mapped) return mapping_refused(b, asked, driver, memory, progress);
+        refused = driver != VK_SUCCESS || !mapped;
+        note_answer(asked, refused, driver);
+        if (refused) return mapping_refused(b, driver, memory, progress);
     }
     progress->kind = PILHANGKO_PROGRESS_PIECE;
     status = pilhangko_allocator_granted(&b->allocator, (uint64_t)memory, (uintptr_t)mapped, &progress->piece);
@@ -188,14 +217,14 @@ static pilhangko_vulkan_result allocate_alone(
     /* before the driver is asked, so that nothing can fail behind its grant */
     if (!has_spare(&b->live)) return undriven(PILHANGKO_HOST_OUT_OF_MEMORY);
     memset(&asked, 0, sizeof asked);
-    if (is_captured(b)) tell_bounds(b, bounds);
+    if (is_captured(&b->capture)) tell_bounds(b, bounds);
     status = begin(b, &wanted, &progress);
     while (status == PILHANGKO_OK && progress.kind == PILHANGKO_PROGRESS_QUESTION) {
         if (wanted.by_flags) forget_questions(&asked);
         status = ask(b, &wanted, &asked, &progress);
     }
     if (status == PILHANGKO_OK) status = progress.status;
-    if (status == PILHANGKO_OK && wanted.by_flags && asked.refusals > 0) forget_questions(&asked); /* the last one's place was there */
+    if (wanted.by_flags && is_refused_last(&asked)) forget_questions(&asked); /* the last one's place was there */
     capture_call(b, &wanted, bounds, status, status == PILHANGKO_OK ? progress.piece.memory_type : 0, &asked);
     if (status != PILHANGKO_OK) return result_of(status, asked.driver);
     keep_allocation(b, &progress.piece, wanted.asks.scheme != PILHANGKO_SCHEME_MANAGED, allocation);
@@ -215,7 +244,7 @@ static pilhangko_status free_alone(struct binding *b, const pilhangko_vulkan_all
     if (!it) return PILHANGKO_NOT_LIVE;
     status = pilhangko_allocator_free(&b->allocator, &it->piece, &back);
     if (status != PILHANGKO_OK) return status;
-    capture_number(&b->capture, "free", it->serial);
+    capture_free(&b->capture, it->serial);
     make_spare(&b->live, allocation->index);
     b->live_count--;
     if (back.exists) {
@@ -406,7 +435,7 @@ struct block_settings {
     void *capture_user;
 };
 
-/* Makes the allocator, and begins the capture with the device. */
+/* Makes the allocator, and begins its capture, where there is to be one. */
 static pilhangko_status create_allocator(struct binding *b, const struct block_settings *blocks) {
     const VkPhysicalDeviceMemoryProperties *p = &b->common->properties;
     const pilhangko_allocator_settings s = {b->common->granularity, or_else(blocks->device_size, UINT64_C(256) << 20),
@@ -423,9 +452,13 @@ static pilhangko_status create_allocator(struct binding *b, const struct block_s
         heaps[i].flags = p->memoryHeaps[i].flags;
     }
     status = pilhangko_allocator_create(&b->allocator, types, p->memoryTypeCount, heaps, p->memoryHeapCount, &s);
-    if (status == PILHANGKO_OK && is_captured(b)) capture_device(&b->capture, p, &s);
-    if (status != PILHANGKO_OK || blocks->whole || is_captured(b)) return status; /* (a trace has no smaller blocks) */
-    return pilhangko_allocator_set_smaller_blocks(&b->allocator, true);
+    if (status != PILHANGKO_OK) return status;
+    if (is_captured(&b->capture)) { /* (a trace has no smaller blocks) */
+        status = pilhangko_capture_of_allocator(&b->capture.kept, types, p->memoryTypeCount, heaps, p->memoryHeapCount, &s);
+        if (status != PILHANGKO_OK) (void)pilhangko_allocator_destroy(&b->allocator);
+        return status;
+    }
+    return pilhangko_allocator_set_smaller_blocks(&b->allocator, !blocks->whole);
 }
 
 /* Begins a binding without blocks over what it has in common with its pools, or with the binding that it is a pool of. */
@@ -434,7 +467,6 @@ static pilhangko_status begin_binding(struct binding *b, struct common *common, 
     b->common = common;
     b->type_bits = UINT32_MAX;
     begin_table(&b->live, sizeof(struct live));
-    b->capture.end = blocks->capture_write ? CAPTURE_WHOLE : CAPTURE_NONE;
     b->capture.write = blocks->capture_write;
     b->capture.user = blocks->capture_user;
     return create_allocator(b, blocks);
@@ -490,7 +522,7 @@ static pilhangko_status begin_parent(struct parent *parent, const pilhangko_vulk
     share_bounds(&parent->common);
     if (make_mutex(&parent->common.lock)) return status;
     (void)pilhangko_allocator_destroy(&parent->binding.allocator);
-    forget_text(&parent->binding.capture.device);
+    drop_capture(&parent->binding.capture);
     return PILHANGKO_HOST_OUT_OF_MEMORY;
 }
 
@@ -565,8 +597,8 @@ pilhangko_status PILHANGKO_CALL pilhangko_vulkan_end_capture(pilhangko_vulkan *v
     if (!vulkan || !capture) return PILHANGKO_NULL_POINTER;
     if (!vulkan->opaque) return PILHANGKO_NO_HANDLE;
     b = enter(binding_of(vulkan));
-    if (b->capture.end == CAPTURE_NONE) status = PILHANGKO_VULKAN_NO_CAPTURE;
-    else *capture = end_capture(b, "");
+    if (!is_captured(&b->capture)) status = PILHANGKO_VULKAN_NO_CAPTURE;
+    else *capture = end_capture(b, false);
     leave(b);
     return status;
 }
@@ -600,7 +632,7 @@ pilhangko_status PILHANGKO_CALL pilhangko_vulkan_destroy(pilhangko_vulkan *vulka
     if (!is_pool && b->next_pool) return PILHANGKO_IN_USE;
     (void)enter(b);
     told.leaks = b->live_count;
-    told.capture = end_capture(b, "destroy\n");
+    told.capture = end_capture(b, true);
     give_back_all(b);
     if (is_pool) part(b);
     leave(b);

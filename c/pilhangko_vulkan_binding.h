@@ -2,7 +2,6 @@
 #ifndef PILHANGKO_VULKAN_BINDING_H
 #define PILHANGKO_VULKAN_BINDING_H
 #include "pilhangko_vulkan_resource.h"
-#include "pilhangko_vulkan_capture.h"
 #include "pilhangko_vulkan_request.h"
 #include "pilhangko_shared.h"
 

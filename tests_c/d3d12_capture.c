@@ -109,7 +109,7 @@ static void memory_rows(void) {
 static void resource_rows(void) {
     pilhangko_d3d12 d3d12 = captured(sizeof written.bytes, 2);
     D3D12_RESOURCE_DESC tiny = fake_texture(16, 16, D3D12_RESOURCE_FLAG_ALLOW_RENDER_TARGET);
-    struct made placed, committed, little, none;
+    struct made placed, committed, little, odd, none;
     tiny.Alignment = FAKE_SMALL;
     fake_refuse(2, FAKE_REFUSES, FAKE_WRONG); /* the resource, behind its heap: a replay isn't asked that */
     IS(creates(&d3d12, fake_buffer(1), false, "placed", &none), PILHANGKO_D3D12_CALL_FAILED);
@@ -121,9 +121,11 @@ static void resource_rows(void) {
     IS(creates(&d3d12, fake_buffer(70000), true, "own memory", &committed), OK);
     IS(creates(&d3d12, fake_buffer(UINT64_MAX), true, NULL, &none), PILHANGKO_OUT_OF_MEMORY);
     IS(creates(&d3d12, tiny, true, NULL, &little), OK);
+    IS(creates(&d3d12, fake_buffer(1), true, "a\xff", &odd), OK); /* its name may be any bytes */
     IS(creates(&d3d12, fake_buffer(0), true, NULL, &none), PILHANGKO_INVALID);
     drops(&d3d12, &committed);
     drops(&d3d12, &little);
+    drops(&d3d12, &odd);
     drops(&d3d12, &placed);
     ends(&d3d12, PILHANGKO_D3D12_CAPTURE_WHOLE);
     is_written(DEVICE("2") "refuse 2 -2147024809\nrefuse 3 null\nnew\nalloc 1 65536 65536 GpuToCpu buffer placed\nfree 1\n"
@@ -133,7 +135,8 @@ static void resource_rows(void) {
                            "create 3 committed GpuToCpu buffer buffer 131072 1 1 0 state:0 none none own_memory\n"
                            "create 4 committed GpuToCpu buffer buffer 18446744073709486080 1 1 0 state:0 none none _\n"
                            "create 4 committed GpuToCpu target buffer 65536 1 1 0 state:0 none none _\n"
-                           "release 3\nrelease 4\nfree 2\ndestroy\n");
+                           "create 5 committed GpuToCpu buffer buffer 65536 1 1 0 state:0 none none a_\n"
+                           "release 3\nrelease 4\nrelease 5\nfree 2\ndestroy\n");
 }
 
 /* Bounds are in a capture where they change, and of several before an allocation the last: an update each frame doesn't fill it. */
