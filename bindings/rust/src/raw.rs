@@ -1,5 +1,5 @@
 //! The archive's symbols and what crosses to them, as include/pilhangko.h declares them. The types that own a handle (`VirtualBlock`,
-//! `Ring`, `MemoryType`, the Vulkan and the DirectX 12 allocator) are the only callers.
+//! `Ring`, `MemoryType`, `Capture`, the Vulkan and the DirectX 12 allocator) are the only callers.
 
 use std::cell::UnsafeCell;
 use std::ffi::c_void;
@@ -45,6 +45,9 @@ pub(crate) const DEVICE12: u32 = 12;
 
 pub(crate) const CALL_IN_STATE: u32 = 1;
 pub(crate) const CALL_IN_LAYOUT_WITH_FORMATS: u32 = 3;
+
+pub(crate) const CAPTURE_WHOLE: u32 = 1;
+pub(crate) const CAPTURE_TOO_LONG: u32 = 2;
 
 pub(crate) const PLAN_ORDER_SIZE: u32 = 1;
 pub(crate) const PLAN_ORDER_AREA: u32 = 2;
@@ -391,6 +394,13 @@ pub(crate) type DeviceMemoryType = crate::vulkan::MemoryType;
 
 /// A heap of a device, laid out as `VkMemoryHeap` is.
 pub(crate) type DeviceHeap = crate::vulkan::MemoryHeap;
+
+#[repr(C)]
+#[derive(Clone, Copy, Debug, Default)]
+pub(crate) struct CaptureAnswer {
+    pub(crate) refused: bool,
+    pub(crate) code: i32,
+}
 
 #[repr(C)]
 #[derive(Clone, Copy, Debug)]
@@ -803,6 +813,55 @@ extern "C" {
         length: *mut usize,
     ) -> u32;
     pub(crate) fn pilhangko_raw_heaps_destroy(heaps: *mut Handle) -> u32;
+
+    pub(crate) fn pilhangko_raw_capture_of_allocator(
+        capture: *mut Handle,
+        types: *const DeviceMemoryType,
+        type_count: usize,
+        heaps: *const DeviceHeap,
+        heap_count: usize,
+        settings: *const AllocatorSettings,
+    ) -> u32;
+    pub(crate) fn pilhangko_raw_capture_allocator_allocated(
+        capture: *mut Handle,
+        number: u64,
+        request: *const AllocatorRequest,
+        name: *const u8,
+        name_length: usize,
+        answers: *const CaptureAnswer,
+        answer_count: usize,
+    ) -> u32;
+    pub(crate) fn pilhangko_raw_capture_allocator_moved(
+        capture: *mut Handle,
+        from: u64,
+        to: u64,
+        request: *const AllocatorRequest,
+        name: *const u8,
+        name_length: usize,
+    ) -> u32;
+    pub(crate) fn pilhangko_raw_capture_freed(capture: *mut Handle, number: u64) -> u32;
+    pub(crate) fn pilhangko_raw_capture_renamed(
+        capture: *mut Handle,
+        number: u64,
+        name: *const u8,
+        name_length: usize,
+    ) -> u32;
+    pub(crate) fn pilhangko_raw_capture_bounded(
+        capture: *mut Handle,
+        memory_type: usize,
+        has_budget: bool,
+        bytes: u64,
+    ) -> u32;
+    pub(crate) fn pilhangko_raw_capture_how_far(capture: *mut Handle, end: *mut u32) -> u32;
+    pub(crate) fn pilhangko_raw_capture_text(
+        capture: *mut Handle,
+        is_destroyed: bool,
+        from: usize,
+        bytes: *mut u8,
+        room: usize,
+        count: *mut usize,
+    ) -> u32;
+    pub(crate) fn pilhangko_raw_capture_destroy(capture: *mut Handle) -> u32;
 
     pub(crate) fn pilhangko_raw_plan(
         resources: *const PlanResource,

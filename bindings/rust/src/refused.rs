@@ -11,8 +11,8 @@ use crate::memory_type::{MemoryRequest, Prepared};
 use crate::plan::{MemoryNeeds, Resource};
 use crate::virtual_block::VirtualRequest;
 use crate::vulkan::{
-    AllocationCreateDesc, AllocationScheme, Allocator, AllocatorCreateDesc, Defragmentation, MemoryRequirements, Move,
-    PoolCreateDesc, TransientCreateDesc, TransientResource, UploadRing,
+    AllocationCreateDesc, AllocationScheme, Allocator, AllocatorCreateDesc, CaptureEnd, Defragmentation, Device,
+    MemoryRequirements, Move, PoolCreateDesc, TransientCreateDesc, TransientResource, UploadRing,
 };
 use crate::{plan, AllocationError, AllocationSizes, Kind, MemoryLocation, MemoryType, Result, Ring, VirtualBlock};
 use common::FakeDriver;
@@ -112,7 +112,7 @@ fn of_a_memory_type() {
 #[test]
 fn of_the_vulkan_allocator() {
     let driver = FakeDriver::new(&[(1, 0), (7, 0)], &[1 << 30], 64);
-    let desc = AllocatorCreateDesc { capture: true, ..AllocatorCreateDesc::new(driver.device()) };
+    let desc = AllocatorCreateDesc::new(driver.device());
     let (mut allocator, refusals) = in_turn(&mut (), |()| Allocator::new(&desc), |()| ());
     assert!(refusals > 0);
     let schemes = [AllocationScheme::GpuAllocatorManaged, AllocationScheme::DedicatedBuffer(crate::vulkan::Buffer(1))];
@@ -137,24 +137,89 @@ fn of_the_vulkan_allocator() {
     }
     let blocks = driver.state().held.len();
     assert_eq!(blocks, 5); // a shared block, and four of a piece's own
-    let pieces = live.len();
     for piece in live {
         refuse(1); // free needs none
         allocator.free(piece).unwrap();
         assert!(!has_refused());
         refuse(0);
     }
-    let commands = allocator.destroy().map_or(0, |capture| capture.lines().filter(|it| it.contains("alloc ")).count());
-    assert_eq!(commands, pieces); // what the host refused isn't captured
+    drop(allocator);
     driver.assert_left_empty();
     assert_eq!(held(), 0);
+}
+
+/// Makes, renames and frees some allocations of a captured allocator, or of a pool: how many calls were refused, how far the capture goes, and
+/// whether it has all that were made.
+fn captured_run(device: Device, of_a_pool: bool) -> Result<(usize, CaptureEnd, bool)> {
+    let mut allocator =
+        Allocator::new(&AllocatorCreateDesc { capture: !of_a_pool, ..AllocatorCreateDesc::new(device) })?;
+    if of_a_pool {
+        allocator = allocator.create_pool(&PoolCreateDesc { capture: true, ..PoolCreateDesc::default() })?;
+    }
+    let request = AllocationCreateDesc {
+        name: NAME,
+        requirements: MemoryRequirements { size: 100, alignment: 4, memory_type_bits: 3 },
+        location: MemoryLocation::CpuToGpu,
+        linear: true,
+        allocation_scheme: AllocationScheme::GpuAllocatorManaged,
+    };
+    let made: Vec<_> = (0..4).map(|_| allocator.allocate(&request)).collect();
+    let mut errors: Vec<_> = made.iter().filter_map(|it| it.as_ref().err().copied()).collect();
+    let mut live: Vec<_> = made.into_iter().flatten().collect();
+    errors.extend(live.iter_mut().filter_map(|it| allocator.rename_allocation(it, OTHER).err()));
+    assert!(errors.iter().all(|error| *error == AllocationError::HostOutOfMemory));
+    let pieces = live.len();
+    live.into_iter().for_each(|it| allocator.free(it).unwrap());
+    let capture = allocator.destroy().expect("its calls are recorded");
+    let has_all = capture.lines().filter(|it| it.starts_with("alloc ")).count() == pieces;
+    Ok((errors.len(), capture.end(), has_all))
+}
+
+/// Where the request is the capture's, the capture ends and no call fails; else one call fails, and the capture hasn't it.
+fn of_captures(of_a_pool: bool) {
+    let (mut not_made, mut failed, mut ended) = (0, 0, 0);
+    for nth in 1.. {
+        let driver = FakeDriver::new(&[(1, 0), (7, 0)], &[1 << 30], 64);
+        refuse(nth);
+        let run = captured_run(driver.device(), of_a_pool);
+        let is_refused = has_refused();
+        refuse(0);
+        driver.assert_left_empty();
+        assert_eq!(held(), 0);
+        match run {
+            Err(error) => {
+                assert_eq!(error, AllocationError::HostOutOfMemory);
+                not_made += 1;
+            }
+            Ok((refusals, end, has_all)) => {
+                let is_cut = end == CaptureEnd::HostOutOfMemory;
+                assert_eq!(refusals + usize::from(is_cut), usize::from(is_refused));
+                assert!(is_cut || (end == CaptureEnd::Whole && has_all));
+                (failed, ended) = (failed + refusals, ended + usize::from(is_cut));
+            }
+        }
+        if !is_refused {
+            break;
+        }
+    }
+    assert!(not_made > 1 && failed > 5 && ended > 5, "{not_made} {failed} {ended}");
+}
+
+#[test]
+fn of_an_allocators_capture() {
+    of_captures(false);
+}
+
+#[test]
+fn of_a_pools_capture() {
+    of_captures(true);
 }
 
 #[test]
 fn of_pools() {
     let driver = FakeDriver::new(&[(1, 0), (7, 0)], &[1 << 30], 64);
     let mut allocator = Allocator::new(&AllocatorCreateDesc::new(driver.device())).unwrap();
-    let desc = PoolCreateDesc { capture: true, ..PoolCreateDesc::default() };
+    let desc = PoolCreateDesc::default();
     let unchanged = |it: &Allocator| assert_eq!((it.capacity(), driver.state().questions), (0, 0));
     let (mut pool, refusals) = in_turn(&mut allocator, |it| it.create_pool(&desc), unchanged);
     assert!(refusals > 0);

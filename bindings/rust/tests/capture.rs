@@ -112,7 +112,7 @@ alloc 1 100 16 3 GpuOnly linear managed first
 alloc 2 100 16 3 GpuOnly linear managed first
 alloc 3 100 16 3 GpuToCpu linear managed read_back
 alloc 4 50 16 3 GpuOnly nonlinear image:9 _
-rename 2 gr__e
+rename 2 gr____e
 free 2
 budget 0 8388608
 alloc 5 10 16 3 Unknown linear buffer:18446744073709551615 b
@@ -280,7 +280,7 @@ fn a_capture_that_is_full_replays_as_far_as_it_goes() {
     let capture = a.destroy().unwrap();
     assert!(capture.to_string().len() <= 1 << 20);
     let last = capture.lines().last().unwrap();
-    assert_eq!(last, "# the capture ends here: a trace has no room for the next call");
+    assert_eq!(last, "# the capture ends here: the next call would make the trace too long");
     let commands = capture.lines().filter(|line| line.starts_with("alloc") || line.starts_with("free")).count();
     assert_replays(&capture, &replies[..=commands]);
 }

@@ -3,7 +3,7 @@
 use super::abi::{Buffer, Image, MemoryRequirements};
 use super::allocation::{Allocation, AllocationBlock, Held};
 use super::answer::{Answer, Refusal};
-use super::capture::Capture;
+use super::capture::{Answers, Bounds, Capture};
 use super::device::{Device, Purpose};
 use super::machine::{Machine, Progress, Question};
 use super::options::{AllocationOptions, Chain};
@@ -170,18 +170,32 @@ impl Allocator {
         let common = self.machine.share.common();
         let mut common = lock(&common);
         self.machine.follow(&common);
-        self.note_bounds();
-        let result = self.serve(&desc, preference.as_ref(), options.next, &mut common);
+        let (bounds, mut answers) = (self.captured_bounds(), Answers::default());
+        let result = self.serve(&desc, preference.as_ref(), options.next, &mut common, &mut answers);
         drop(common);
-        if let Some(capture) = &mut self.capture {
-            match &result {
-                Err(AllocationError::HostOutOfMemory) => capture.undo(),
-                Ok(it) if by_flags => capture.allocated(self.requests, &of_type(&desc, it.memory_type_index())),
-                Err(_) if by_flags => {} // it changed nothing
-                _ => capture.allocated(self.requests, &desc),
-            }
-        }
+        self.record(&desc, by_flags, &result, &bounds, &answers);
         result
+    }
+
+    /// Records a request, where it is captured: one for which the host had no memory, and an invalid one, changed nothing, and so did one by flags
+    /// that was refused. One by flags that served is one of its memory type alone.
+    fn record(
+        &mut self,
+        desc: &AllocationCreateDesc<'_>,
+        by_flags: bool,
+        result: &Result<Allocation>,
+        bounds: &Bounds,
+        answers: &Answers,
+    ) {
+        let Some(capture) = &mut self.capture else { return };
+        let narrowed = match result {
+            Err(AllocationError::HostOutOfMemory | AllocationError::InvalidAllocationCreateDesc) => return,
+            Err(_) if by_flags => return,
+            Ok(it) if by_flags => of_type(desc, it.memory_type_index()),
+            _ => desc.clone(),
+        };
+        capture.bounded(bounds);
+        capture.allocated(self.requests, &narrowed, answers);
     }
 
     /// Frees an allocation; its block goes back to the driver where it is left empty and isn't the only shared one of its memory type. It
@@ -242,9 +256,7 @@ impl Allocator {
     ///
     /// The error: `Internal` where there is no such memory type.
     pub fn set_budget(&mut self, memory_type: usize, budget: Option<u64>) -> Result<()> {
-        self.machine.set_budget(memory_type, budget)?;
-        self.note_bounds();
-        Ok(())
+        self.machine.set_budget(memory_type, budget)
     }
 
     /// The memory type at which a request with these bits begins: the first with all flags that the location prefers, else the first with
@@ -263,14 +275,16 @@ impl Allocator {
         self.machine.device()
     }
 
-    /// What was asked of the allocator by now, where that is recorded.
+    /// What was asked of the allocator by now, where that is recorded, up to the budgets as they are.
     pub fn capture(&self) -> Option<&Capture> {
+        self.record_bounds();
         self.capture.as_ref()
     }
 
     /// Drops the allocator, and returns what was asked of it, up to its end, where that is recorded.
     pub fn destroy(mut self) -> Option<Capture> {
         self.follow_others();
+        self.record_bounds();
         let mut capture = self.capture.take()?;
         capture.destroyed();
         Some(capture)
@@ -283,9 +297,10 @@ impl Allocator {
         preference: Option<&Preference>,
         next: Option<Chain<'_>>,
         common: &mut Common,
+        answers: &mut Answers,
     ) -> Result<Allocation> {
         let name = copied(desc.name)?;
-        let piece = self.place(desc, preference, next, common)?;
+        let piece = self.place(desc, preference, next, common, answers)?;
         Ok(Allocation { held: Some(self.held(piece, desc.allocation_scheme)), name: Some(name), user_data: 0 })
     }
 
@@ -296,6 +311,7 @@ impl Allocator {
         preference: Option<&Preference>,
         next: Option<Chain<'_>>,
         common: &mut Common,
+        answers: &mut Answers,
     ) -> Result<AllocatorPiece> {
         let next = next.or(self.next);
         let purpose = Purpose { scheme: desc.allocation_scheme, device_address: self.device_address, next };
@@ -308,7 +324,7 @@ impl Allocator {
             progress = match progress {
                 Progress::Piece(piece) => return Ok(piece),
                 Progress::Refused(status) => return Err(error_of(status, refusal)),
-                Progress::Question(question) => match self.ask(&question, purpose, preference.is_some()) {
+                Progress::Question(question) => match self.ask(&question, purpose, preference.is_some(), answers) {
                     Answer::Granted(memory) => return Ok(self.machine.granted(memory, common)),
                     Answer::MemoryRefused(refused) => {
                         refusal = Some(refused);
@@ -330,13 +346,11 @@ impl Allocator {
     }
 
     /// Of a request by flags a capture has the attempt that served alone.
-    fn ask(&mut self, question: &Question, purpose: Purpose<'_>, by_flags: bool) -> Answer {
+    fn ask(&self, question: &Question, purpose: Purpose<'_>, by_flags: bool, answers: &mut Answers) -> Answer {
         let answer = self.device().ask(question, purpose);
-        if let Some(capture) = &mut self.capture {
-            capture.asked(question.mapped, &answer);
-            if by_flags && !matches!(answer, Answer::Granted(_)) {
-                capture.undo();
-            }
+        answers.note(question.mapped, &answer);
+        if by_flags && !matches!(answer, Answer::Granted(_)) {
+            answers.forget();
         }
         answer
     }

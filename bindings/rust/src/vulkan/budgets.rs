@@ -2,6 +2,7 @@
 
 use super::abi::PhysicalDeviceMemoryProperties;
 use super::allocator::Allocator;
+use super::capture::Bounds;
 use super::device::Device;
 use super::pool::lock;
 use super::resource_abi::{
@@ -109,19 +110,27 @@ impl Allocator {
         lock(&self.machine.share.common()).limit(heap)
     }
 
-    /// Takes over what pools, or the allocator that this is a pool of, leave of the bounds, and notes it.
+    /// Takes over what pools, or the allocator that this is a pool of, leave of the bounds.
     pub(super) fn follow_others(&mut self) {
         let common = self.machine.share.common();
         self.machine.follow(&lock(&common));
-        self.note_bounds();
     }
 
-    /// Notes the bounds of memory types by which the next request is served, where it is captured. A trace bounds no heaps, and not how many blocks
-    /// there are: of a heap each memory type has what the others leave, and where no block may come each has what it holds.
-    pub(super) fn note_bounds(&mut self) {
-        let Some(mut capture) = self.capture.take() else { return };
-        capture.bounded((0..self.device().memory_types().len()).map(|index| self.bound_of(index)));
-        self.capture = Some(capture);
+    /// The bounds of memory types by which the next request is served, where it is captured. A trace bounds no heaps, and not how many blocks there
+    /// are: of a heap each memory type has what the others leave, and where no block may come each has what it holds.
+    pub(super) fn captured_bounds(&self) -> Bounds {
+        let (mut bounds, types) = ([None; 32], self.device().memory_types().len());
+        if self.capture.is_some() {
+            (0..types).for_each(|index| bounds[index] = self.bound_of(index));
+        }
+        bounds
+    }
+
+    /// Records them as they are now.
+    pub(super) fn record_bounds(&self) {
+        if let Some(capture) = &self.capture {
+            capture.bounded(&self.captured_bounds());
+        }
     }
 
     fn bound_of(&self, index: usize) -> Option<u64> {

@@ -1,23 +1,14 @@
-//! Captures: what was asked of an allocator, as a trace that the program `gpu_trace` replays (docs/TRACE.md).
+//! Captures: what was asked of an allocator, as a trace that the program `gpu_trace` replays (docs/TRACE.md). The library keeps them.
 
 use super::answer::{Answer, Refusal};
-use super::{AllocationCreateDesc, AllocationScheme, Device};
-use crate::{AllocationError, AllocationSizes, Result};
-use std::fmt::{self, Write as _};
+use super::machine::{raw_request, raw_settings};
+use super::{AllocationCreateDesc, Device};
+use crate::error::{check, check_unrefused};
+use crate::raw::{self, CaptureAnswer, Handle};
+use crate::{AllocationSizes, Result};
+use std::fmt;
 use std::io;
 use std::iter;
-
-/// A trace is no longer, in bytes.
-const LONGEST_TRACE: usize = 1 << 20;
-
-/// A name in a trace is no longer, in bytes.
-const LONGEST_NAME: usize = 64;
-
-const NEW: &str = "new";
-
-const TOO_LONG: &str = "# the capture ends here: a trace has no room for the next call";
-
-const NO_MEMORY: &str = "# the capture ends here: the host refused memory for the next call";
 
 /// How far a capture goes.
 #[derive(Clone, Copy, Debug, PartialEq, Eq)]
@@ -33,319 +24,235 @@ pub enum CaptureEnd {
 /// What was asked of an allocator since it was made, and what its driver refused, as a device trace: `gpu_trace` replays it over a
 /// simulated device, with the same memory types, slots, places and causes of refusal. `Display` prints the trace.
 ///
-/// Allocations, proposed moves, frees and renamings are recorded, and budgets where an allocation or a move finds them, or the end: of several that were set in turn the
-/// last, where it is another than before. Null allocations, allocations of other allocators and requests that the host had no memory for are
-/// left out: they change nothing. A name is brought into a trace's alphabet: `_` stands for other characters and for an
-/// empty name, and it is cut at 64 bytes.
-#[derive(Clone, Debug)]
+/// Allocations, proposed moves, frees and renamings are recorded, and budgets where an allocation or a move finds them, `Allocator::capture`
+/// shows them, or at the end: of several that were set in turn the last, where it is another than before. Null allocations, allocations of other
+/// allocators, invalid requests and those that the host had no memory for are left out: they change nothing. A name is brought into a trace's
+/// alphabet: `_` stands for each other byte and for an empty name, and it is cut at 64 bytes.
+#[derive(Debug)]
 pub struct Capture {
-    settings: Lines,
-    refusals: Lines,
-    commands: Lines,
-    asked: u64,
-    last_whole: Mark,
-    budgets: Vec<Budget>,
-    /// A command for each budget that is another than the commands have.
-    new_budgets: Lines,
-    end: CaptureEnd,
+    handle: Handle,
+    is_destroyed: bool,
 }
 
-/// The budget of a memory type, now and by the commands.
-#[derive(Clone, Copy, Debug, Default)]
-struct Budget {
-    now: Option<u64>,
-    recorded: Option<u64>,
+/// The bounds of the memory types.
+pub(super) type Bounds = [Option<u64>; 32];
+
+/// What the driver answered to the questions of a request. One that is captured has two attempts at most, since its allocator has no smaller
+/// blocks, and each a question for memory and one for its mapping; of another one no more are kept.
+#[derive(Debug, Default)]
+pub(super) struct Answers {
+    told: [CaptureAnswer; 4],
+    count: usize,
 }
 
-/// Up to where whole calls are recorded.
-#[derive(Clone, Copy, Debug, Default)]
-struct Mark {
-    refusals: usize,
-    commands: usize,
-    asked: u64,
+impl Answers {
+    /// Notes the answer to the question for memory, and to the one for its mapping where that was asked.
+    pub(super) fn note(&mut self, mapped: bool, answer: &Answer) {
+        match answer {
+            Answer::MemoryRefused(refusal) => self.push(Some(*refusal)),
+            Answer::MappingRefused(refusal) => {
+                self.push(None);
+                self.push(Some(*refusal));
+            }
+            Answer::Granted(_) => (0..=u8::from(mapped)).for_each(|_| self.push(None)),
+        }
+    }
+
+    fn push(&mut self, refusal: Option<Refusal>) {
+        if let Some(answer) = self.told.get_mut(self.count) {
+            // a null pointer has no code
+            let code = refusal.and_then(Refusal::code).unwrap_or(0);
+            *answer = CaptureAnswer { refused: refusal.is_some(), code };
+            self.count += 1;
+        }
+    }
+
+    /// Forgets those of an attempt that isn't captured.
+    pub(super) fn forget(&mut self) {
+        self.count = 0;
+    }
 }
 
 impl Capture {
     /// The capture of an allocator that is made.
     pub(super) fn new(device: &Device, sizes: &AllocationSizes) -> Result<Self> {
-        let mut capture = Capture::blank();
-        let type_count = device.memory_types().len();
-        capture.budgets.try_reserve_exact(type_count)?;
-        capture.budgets.resize(type_count, Budget::default());
-        capture.describe(device, sizes).map_err(|NoRoom| AllocationError::HostOutOfMemory)?;
+        let capture = Capture { handle: Handle::empty(), is_destroyed: false };
+        let (types, heaps) = (device.memory_types(), device.memory_heaps());
+        // SAFETY: the handle is empty and this call's alone; types and heaps are as many as is said, and all of it outlives the call.
+        check(unsafe {
+            raw::pilhangko_raw_capture_of_allocator(
+                capture.handle.as_ptr(),
+                types.as_ptr(),
+                types.len(),
+                heaps.as_ptr(),
+                heaps.len(),
+                &raw_settings(device, sizes),
+            )
+        })?;
         Ok(capture)
     }
 
-    /// A capture without a line.
-    fn blank() -> Self {
-        Capture {
-            settings: Lines::default(),
-            refusals: Lines::default(),
-            commands: Lines::default(),
-            asked: 0,
-            last_whole: Mark::default(),
-            budgets: Vec::new(),
-            new_budgets: Lines::default(),
-            end: CaptureEnd::Whole,
-        }
-    }
-
-    fn describe(&mut self, device: &Device, sizes: &AllocationSizes) -> Result<(), NoRoom> {
-        for heap in device.memory_heaps() {
-            self.settings.push(format_args!("heap {}", heap.size))?;
-        }
-        for memory_type in device.memory_types() {
-            let (flags, heap) = (memory_type.property_flags.0, memory_type.heap_index);
-            self.settings.push(format_args!("type {flags} {heap}"))?;
-        }
-        self.settings.push(format_args!("granularity {}", device.limits().buffer_image_granularity))?;
-        let sizes = sizes.parts();
-        let (first, largest) = ((sizes.device, sizes.host), (sizes.largest_device, sizes.largest_host));
-        self.settings.push(format_args!("sizes {} {} {} {}", first.0, first.1, largest.0, largest.1))
-    }
-
-    /// Records what the driver was asked and answered; the call that asked it is recorded later, or undone. A trace counts the question for
-    /// memory and the one for its mapping.
-    pub(super) fn asked(&mut self, mapped: bool, answer: &Answer) {
-        if self.end != CaptureEnd::Whole {
-            return;
-        }
-        let (questions, refusal) = match answer {
-            Answer::MemoryRefused(refusal) => (1, Some(refusal)),
-            Answer::MappingRefused(refusal) => (2, Some(refusal)),
-            Answer::Granted(_) => (1 + u64::from(mapped), None),
-        };
-        self.asked += questions;
-        let number = self.asked;
-        let written = match refusal {
-            None => Ok(()),
-            Some(Refusal::Code(code)) => self.refusals.push(format_args!("refuse {number} {code}")),
-            Some(Refusal::Null) => self.refusals.push(format_args!("refuse {number} null")),
-        };
-        self.go_on(written);
-    }
-
-    /// Records a request under its number, which stands for its allocation.
-    pub(super) fn allocated(&mut self, number: u64, desc: &AllocationCreateDesc<'_>) {
-        self.record_behind_budgets(format_args!("alloc {number} {}", Request(desc)));
+    /// Records a request under its number, which stands for its allocation, and what the driver answered.
+    pub(super) fn allocated(&mut self, number: u64, desc: &AllocationCreateDesc<'_>, answers: &Answers) {
+        // SAFETY: the handle is this capture's alone, name and answers are as many as is said, and all of it outlives the call.
+        check_unrefused(unsafe {
+            raw::pilhangko_raw_capture_allocator_allocated(
+                self.handle.as_ptr(),
+                number,
+                &raw_request(desc),
+                desc.name.as_ptr(),
+                desc.name.len(),
+                answers.told.as_ptr(),
+                answers.count,
+            )
+        });
     }
 
     /// Records a proposed move of the allocation with this number; the second place, where there is one, stands under `to`.
     pub(super) fn moved(&mut self, number: u64, to: u64, desc: &AllocationCreateDesc<'_>) {
-        self.record_behind_budgets(format_args!("move {number} {to} {}", Request(desc)));
-    }
-
-    /// Forgets what the driver was asked since the last call: the host had no memory for this one.
-    pub(super) fn undo(&mut self) {
-        if self.end == CaptureEnd::Whole {
-            self.cut();
-        }
+        // SAFETY: the handle is this capture's alone, the name's bytes are as many as is said, and all of it outlives the call.
+        check_unrefused(unsafe {
+            raw::pilhangko_raw_capture_allocator_moved(
+                self.handle.as_ptr(),
+                number,
+                to,
+                &raw_request(desc),
+                desc.name.as_ptr(),
+                desc.name.len(),
+            )
+        });
     }
 
     /// Records that an allocation is freed.
     pub(super) fn freed(&mut self, number: u64) {
-        self.record(format_args!("free {number}"));
+        // SAFETY: the handle is this capture's alone.
+        check_unrefused(unsafe { raw::pilhangko_raw_capture_freed(self.handle.as_ptr(), number) });
     }
 
     /// Records that an allocation is renamed.
     pub(super) fn renamed(&mut self, number: u64, name: &str) {
-        self.record(format_args!("rename {number} {}", TraceName(name)));
+        // SAFETY: the handle is this capture's alone, and the name's bytes, which outlive the call, are as many as is said.
+        check_unrefused(unsafe {
+            raw::pilhangko_raw_capture_renamed(self.handle.as_ptr(), number, name.as_ptr(), name.len())
+        });
     }
 
-    /// Notes the budgets of the memory types. They count where something is allocated, and are recorded then, or at the end.
-    pub(super) fn bounded(&mut self, budgets: impl Iterator<Item = Option<u64>>) {
-        if self.end == CaptureEnd::Whole {
-            self.budgets.iter_mut().zip(budgets).for_each(|(it, now)| it.now = now);
-            let written = self.write_new_budgets();
-            self.go_on(written);
+    /// Records the bounds of the memory types that are others than before.
+    pub(super) fn bounded(&self, bounds: &Bounds) {
+        for (memory_type, bound) in bounds.iter().enumerate() {
+            // SAFETY: the handle is this capture's alone: it isn't `Sync`.
+            check_unrefused(unsafe {
+                raw::pilhangko_raw_capture_bounded(
+                    self.handle.as_ptr(),
+                    memory_type,
+                    bound.is_some(),
+                    bound.unwrap_or(0),
+                )
+            });
         }
-    }
-
-    fn write_new_budgets(&mut self) -> Result<(), NoRoom> {
-        self.new_budgets.truncate(0);
-        for (memory_type, budget) in self.budgets.iter().enumerate().filter(|(_, it)| it.now != it.recorded) {
-            match budget.now {
-                Some(bytes) => self.new_budgets.push(format_args!("budget {memory_type} {bytes}"))?,
-                None => self.new_budgets.push(format_args!("budget {memory_type} none"))?,
-            }
-        }
-        Ok(())
-    }
-
-    /// Makes commands of the new budgets.
-    fn record_new_budgets(&mut self) -> Result<(), NoRoom> {
-        self.commands.append(&self.new_budgets)?;
-        self.new_budgets.truncate(0);
-        self.budgets.iter_mut().for_each(|it| it.recorded = it.now);
-        Ok(())
     }
 
     /// Records that the allocator goes.
     pub(super) fn destroyed(&mut self) {
-        self.record_behind_budgets(format_args!("destroy"));
-    }
-
-    fn record(&mut self, line: fmt::Arguments<'_>) {
-        if self.end == CaptureEnd::Whole {
-            let written = self.commands.push(line);
-            self.end_call(written);
-        }
-    }
-
-    fn record_behind_budgets(&mut self, line: fmt::Arguments<'_>) {
-        if self.end == CaptureEnd::Whole {
-            let written = self.record_new_budgets().and_then(|()| self.commands.push(line));
-            self.end_call(written);
-        }
-    }
-
-    fn end_call(&mut self, written: Result<(), NoRoom>) {
-        self.go_on(written);
-        self.keep();
-    }
-
-    /// What is recorded by now is the last whole call.
-    fn keep(&mut self) {
-        if self.end == CaptureEnd::Whole {
-            let (refusals, commands) = (self.refusals.len(), self.commands.len());
-            self.last_whole = Mark { refusals, commands, asked: self.asked };
-        }
-    }
-
-    /// Ends the capture behind the last whole call where a line wasn't written, or one more wouldn't fit.
-    fn go_on(&mut self, written: Result<(), NoRoom>) {
-        self.end = match written {
-            Err(NoRoom) => CaptureEnd::HostOutOfMemory,
-            Ok(()) if self.length() > LONGEST_TRACE => CaptureEnd::TooLong,
-            Ok(()) => return,
-        };
-        self.new_budgets.truncate(0);
-        self.cut();
-    }
-
-    fn cut(&mut self) {
-        self.refusals.truncate(self.last_whole.refusals);
-        self.commands.truncate(self.last_whole.commands);
-        self.asked = self.last_whole.asked;
-    }
-
-    /// The length of the trace with the longest line that may end it.
-    fn length(&self) -> usize {
-        let longest_end = TOO_LONG.len().max(NO_MEMORY.len()) + 1;
-        let commands = self.commands.len() + self.new_budgets.len();
-        self.settings.len() + self.refusals.len() + NEW.len() + 1 + commands + longest_end
+        self.is_destroyed = true;
     }
 
     /// How far it goes.
     pub fn end(&self) -> CaptureEnd {
-        self.end
+        let mut end = 0;
+        // SAFETY: the handle is this capture's alone: it isn't `Sync`.
+        check_unrefused(unsafe { raw::pilhangko_raw_capture_how_far(self.handle.as_ptr(), &mut end) });
+        match end {
+            raw::CAPTURE_WHOLE => CaptureEnd::Whole,
+            raw::CAPTURE_TOO_LONG => CaptureEnd::TooLong,
+            _ => CaptureEnd::HostOutOfMemory,
+        }
+    }
+
+    /// Passes the text on in parts. It needs no host memory.
+    fn pass_on<E>(&self, mut take: impl FnMut(&str) -> std::result::Result<(), E>) -> std::result::Result<(), E> {
+        let (mut part, mut from) = ([0; 4096], 0);
+        loop {
+            let count = self.copy_from(from, &mut part);
+            if count == 0 {
+                return Ok(());
+            }
+            take(std::str::from_utf8(&part[..count]).expect("a trace is ASCII"))?;
+            from += count;
+        }
+    }
+
+    /// Copies the text from a byte on, as much as there is room for; says how many bytes that are.
+    fn copy_from(&self, from: usize, part: &mut [u8]) -> usize {
+        let mut count = 0;
+        // SAFETY: the handle is this capture's alone: it isn't `Sync`. There is as much room as is said, and all of it outlives the call.
+        check_unrefused(unsafe {
+            raw::pilhangko_raw_capture_text(
+                self.handle.as_ptr(),
+                self.is_destroyed,
+                from,
+                part.as_mut_ptr(),
+                part.len(),
+                &mut count,
+            )
+        });
+        count
+    }
+
+    /// The line that begins at this byte; `None` at the end.
+    fn line_at(&self, from: usize) -> Option<String> {
+        let mut part = [0; 512]; // more than the longest line
+        let count = self.copy_from(from, &mut part);
+        let end = part[..count].iter().position(|byte| *byte == b'\n')?;
+        Some(part[..end].iter().copied().map(char::from).collect())
     }
 
     /// The lines of the trace, without their ends.
-    pub fn lines(&self) -> impl Iterator<Item = &str> {
-        let end = match self.end {
-            CaptureEnd::Whole => None,
-            CaptureEnd::TooLong => Some(TOO_LONG),
-            CaptureEnd::HostOutOfMemory => Some(NO_MEMORY),
-        };
-        let before = self.settings.lines().chain(self.refusals.lines());
-        before.chain(iter::once(NEW)).chain(self.commands.lines()).chain(self.new_budgets.lines()).chain(end)
+    pub fn lines(&self) -> impl Iterator<Item = String> + '_ {
+        let mut from = 0;
+        iter::from_fn(move || {
+            let line = self.line_at(from)?;
+            from += line.len() + 1;
+            Some(line)
+        })
     }
 
     /// Writes the trace.
     ///
     /// The errors are the writer's.
     pub fn write_to(&self, mut writer: impl io::Write) -> io::Result<()> {
-        self.lines().try_for_each(|line| writeln!(writer, "{line}"))
+        self.pass_on(|part| writer.write_all(part.as_bytes()))
     }
 }
 
 impl fmt::Display for Capture {
     fn fmt(&self, f: &mut fmt::Formatter<'_>) -> fmt::Result {
-        self.lines().try_for_each(|line| writeln!(f, "{line}"))
+        self.pass_on(|part| f.write_str(part))
     }
 }
 
-/// Lines, each with its end. The host may refuse memory for more of them.
-#[derive(Clone, Debug, Default)]
-struct Lines(String);
-
-/// The host refused memory for a line.
-#[derive(Clone, Copy, Debug)]
-struct NoRoom;
-
-impl Lines {
-    fn push(&mut self, line: fmt::Arguments<'_>) -> Result<(), NoRoom> {
-        writeln!(self, "{line}").map_err(|fmt::Error| NoRoom)
-    }
-
-    fn append(&mut self, lines: &Lines) -> Result<(), NoRoom> {
-        self.write_str(&lines.0).map_err(|fmt::Error| NoRoom)
-    }
-
-    fn len(&self) -> usize {
-        self.0.len()
-    }
-
-    fn truncate(&mut self, length: usize) {
-        self.0.truncate(length);
-    }
-
-    fn lines(&self) -> std::str::Lines<'_> {
-        self.0.lines()
-    }
-}
-
-impl fmt::Write for Lines {
-    fn write_str(&mut self, text: &str) -> fmt::Result {
-        self.0.try_reserve(text.len()).map_err(|_| fmt::Error)?;
-        self.0.push_str(text);
-        Ok(())
-    }
-}
-
-/// A request in a trace's words.
-struct Request<'a>(&'a AllocationCreateDesc<'a>);
-
-impl fmt::Display for Request<'_> {
-    fn fmt(&self, f: &mut fmt::Formatter<'_>) -> fmt::Result {
-        let needs = &self.0.requirements;
-        let (size, alignment, bits) = (needs.size, needs.alignment, needs.memory_type_bits);
-        let (location, name) = (self.0.location, TraceName(self.0.name));
-        let kind = if self.0.linear { "linear" } else { "nonlinear" };
-        let scheme = Scheme(self.0.allocation_scheme);
-        write!(f, "{size} {alignment} {bits} {location:?} {kind} {scheme} {name}")
-    }
-}
-
-/// What memory is made for, in a trace's words.
-struct Scheme(AllocationScheme);
-
-impl fmt::Display for Scheme {
-    fn fmt(&self, f: &mut fmt::Formatter<'_>) -> fmt::Result {
-        match self.0 {
-            AllocationScheme::GpuAllocatorManaged => f.write_str("managed"),
-            AllocationScheme::DedicatedBuffer(buffer) => write!(f, "buffer:{}", buffer.0),
-            AllocationScheme::DedicatedImage(image) => write!(f, "image:{}", image.0),
-        }
-    }
-}
-
-/// A name in a trace's alphabet, which is `!` to `~`.
-struct TraceName<'a>(&'a str);
-
-impl fmt::Display for TraceName<'_> {
-    fn fmt(&self, f: &mut fmt::Formatter<'_>) -> fmt::Result {
-        let name = if self.0.is_empty() { "_" } else { self.0 };
-        name.chars().take(LONGEST_NAME).try_for_each(|it| f.write_char(if it.is_ascii_graphic() { it } else { '_' }))
+impl Drop for Capture {
+    fn drop(&mut self) {
+        // SAFETY: the handle is this capture's alone, and isn't used again. An empty one, which `new` left, is refused.
+        unsafe { raw::pilhangko_raw_capture_destroy(self.handle.as_ptr()) };
     }
 }
 
 #[cfg(test)]
 mod tests {
     use super::*;
-    use crate::vulkan::MemoryRequirements;
+    use crate::refused::common::FakeDriver;
+    use crate::vulkan::{AllocationScheme, MemoryRequirements};
     use crate::MemoryLocation;
+
+    const DEVICE: &str = "heap 1000\ntype 1 0\ngranularity 64\nsizes 4194304 4194304 4194304 4194304\n";
+
+    const TOO_LONG: &str = "# the capture ends here: the next call would make the trace too long";
+
+    fn begun() -> Capture {
+        let driver = FakeDriver::new(&[(1, 0)], &[1000], 64);
+        Capture::new(&driver.device(), &AllocationSizes::new(4 << 20, 4 << 20)).expect("the host has memory")
+    }
 
     fn request(name: &str) -> AllocationCreateDesc<'_> {
         AllocationCreateDesc {
@@ -357,48 +264,63 @@ mod tests {
         }
     }
 
+    fn answered(answers: &[(bool, Answer)]) -> Answers {
+        let mut noted = Answers::default();
+        answers.iter().for_each(|(mapped, answer)| noted.note(*mapped, answer));
+        noted
+    }
+
     #[test]
     fn names_are_brought_into_the_alphabet() {
+        let mut capture = begun();
         let long = "x".repeat(65);
-        let names = [("a b\n", "a_b_"), ("", "_"), ("é~!\u{7f}", "_~!_"), (&long, &long[..64])];
-        for (name, expected) in names {
-            assert_eq!(TraceName(name).to_string(), expected);
+        let names = [("a b\n", "a_b_"), ("", "_"), ("é~!\u{7f}", "__~!_"), (&long, &long[..64])];
+        let mut expected = format!("{DEVICE}new\n");
+        for (number, (name, word)) in (1..).zip(names) {
+            capture.renamed(number, name);
+            expected += &format!("rename {number} {word}\n");
         }
+        assert_eq!(capture.to_string(), expected);
+        assert!(capture.lines().eq(expected.lines()));
     }
 
     #[test]
     fn a_capture_ends_at_a_whole_line_where_a_trace_has_no_more_room() {
-        let mut capture = Capture::blank();
+        let mut capture = begun();
         let name = "n".repeat(64);
         for number in 0..20_000 {
-            capture.allocated(number, &request(&name));
+            capture.allocated(number, &request(&name), &Answers::default());
         }
         assert_eq!(capture.end(), CaptureEnd::TooLong);
         let text = capture.to_string();
-        // a line is 99 to 103 bytes, and the end may need 70
-        assert!(text.len() <= 1 << 20 && text.len() > (1 << 20) - 200, "{}", text.len());
-        let lines: Vec<&str> = text.lines().collect();
+        // a line is 99 to 103 bytes, and the end may need 160
+        assert!(text.len() <= 1 << 20 && text.len() > (1 << 20) - 300, "{}", text.len());
+        let lines: Vec<&str> = text.strip_prefix(DEVICE).expect("it begins with the device").lines().collect();
         assert_eq!(lines.last(), Some(&TOO_LONG));
         assert_eq!(lines[0], "new");
         for (number, line) in lines[1..lines.len() - 1].iter().enumerate() {
             assert_eq!(*line, format!("alloc {number} 1 1 1 Unknown linear managed {name}"));
         }
         capture.freed(1);
+        capture.destroyed();
         assert_eq!(capture.to_string(), text);
+        let mut written = Vec::new();
+        capture.write_to(&mut written).expect("a list takes all");
+        assert_eq!(written, text.as_bytes());
     }
 
     #[test]
-    fn refusals_are_numbered_and_an_undone_call_leaves_none() {
-        let mut capture = Capture::blank();
-        capture.asked(true, &Answer::MemoryRefused(Refusal::Code(-2))); // question 1
-        capture.asked(true, &Answer::MappingRefused(Refusal::Null)); // 2 and 3
-        capture.allocated(0, &request("a"));
-        capture.asked(false, &Answer::MemoryRefused(Refusal::Null)); // 4
-        capture.undo();
-        capture.asked(false, &Answer::MemoryRefused(Refusal::Code(-1))); // 4 again
-        capture.allocated(1, &request("b"));
+    fn refusals_are_numbered_and_a_forgotten_attempt_leaves_none() {
+        let mut capture = begun();
+        let code = |code| Answer::MemoryRefused(Refusal::Code(code));
+        let answers = [(true, code(-2)), (true, Answer::MappingRefused(Refusal::Null))]; // questions 1, and 2 and 3
+        capture.allocated(0, &request("a"), &answered(&answers));
+        let mut answers = answered(&[(false, Answer::MemoryRefused(Refusal::Null))]);
+        answers.forget();
+        answers.note(false, &code(-1)); // 4
+        capture.allocated(1, &request("b"), &answers);
         let expected = "refuse 1 -2\nrefuse 3 null\nrefuse 4 -1\nnew\n\
             alloc 0 1 1 1 Unknown linear managed a\nalloc 1 1 1 1 Unknown linear managed b\n";
-        assert_eq!(capture.to_string(), expected);
+        assert_eq!(capture.to_string(), format!("{DEVICE}{expected}"));
     }
 }

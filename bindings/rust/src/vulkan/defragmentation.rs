@@ -58,6 +58,7 @@ impl Allocator {
         let requirements = self.narrow(desc.requirements);
         let desc = AllocationCreateDesc { requirements, ..desc.clone() };
         let to = self.machine.propose_move(&piece, &desc)?;
+        self.record_bounds();
         if let Some(capture) = &mut self.capture {
             capture.moved(number, self.requests + 1, &desc);
         }

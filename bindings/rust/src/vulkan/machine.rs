@@ -56,7 +56,20 @@ pub(crate) fn location_number(location: MemoryLocation) -> u32 {
     }
 }
 
-fn raw_request(desc: &AllocationCreateDesc<'_>) -> raw::AllocatorRequest {
+/// What an allocator without blocks is made with, for the library.
+pub(super) fn raw_settings(device: &Device, sizes: &AllocationSizes) -> raw::AllocatorSettings {
+    let sizes = sizes.parts();
+    raw::AllocatorSettings {
+        page_size: device.limits().buffer_image_granularity,
+        device_block_size: sizes.device,
+        largest_device_block_size: sizes.largest_device,
+        host_block_size: sizes.host,
+        largest_host_block_size: sizes.largest_host,
+    }
+}
+
+/// A request for the library.
+pub(super) fn raw_request(desc: &AllocationCreateDesc<'_>) -> raw::AllocatorRequest {
     let (scheme, resource) = match desc.allocation_scheme {
         AllocationScheme::GpuAllocatorManaged => (raw::SCHEME_MANAGED, 0),
         AllocationScheme::DedicatedBuffer(buffer) => (raw::SCHEME_BUFFER, buffer.0),
@@ -95,14 +108,7 @@ impl Machine {
     }
 
     fn over(device: &Device, sizes: &AllocationSizes, share: Share) -> Result<Self> {
-        let (types, heaps, sizes) = (device.memory_types(), device.memory_heaps(), sizes.parts());
-        let settings = raw::AllocatorSettings {
-            page_size: device.limits().buffer_image_granularity,
-            device_block_size: sizes.device,
-            largest_device_block_size: sizes.largest_device,
-            host_block_size: sizes.host,
-            largest_host_block_size: sizes.largest_host,
-        };
+        let (types, heaps) = (device.memory_types(), device.memory_heaps());
         let handle = Handle::empty();
         // SAFETY: the handle is empty and this call's alone; types and heaps are as many as is said, and all of it outlives the call.
         check(unsafe {
@@ -112,7 +118,7 @@ impl Machine {
                 types.len(),
                 heaps.as_ptr(),
                 heaps.len(),
-                &settings,
+                &raw_settings(device, sizes),
             )
         })?;
         Ok(Machine { handle, device: device.clone(), blocks: 0, most_blocks: None, share })

@@ -209,8 +209,11 @@ impl Script {
         self.driver.state().refused.clear();
         let result = self.allocator.allocate(&desc);
         let met = Met { refused: self.driver.state().refused.clone() };
-        self.told_budgets();
-        self.told(reply(&result));
+        // what is invalid is in no capture
+        if !result.as_ref().is_err_and(|error| *error == AllocationError::InvalidAllocationCreateDesc) {
+            self.told_budgets();
+            self.told(reply(&result));
+        }
         *self.outcomes.entry(result.as_ref().map_or_else(AllocationError::number, |_| 0)).or_default() += 1;
         match result {
             Err(error) => self.account.refused(&desc, &met, &error),
