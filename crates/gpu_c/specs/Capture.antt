@@ -78,10 +78,14 @@ metal_heaps_words r name = option_map (λ location. metal_words r.size r.alignme
 
 -- ---- what the calls keep
 
--- a call of these words was kept, whose questions the driver answered so
+-- a call with this line was kept, whose questions the driver answered so
+abbrev pub KeepsLine : CaptureState → (line : List ℕ) → List CaptureAnswer → CaptureState → Type 0
+KeepsLine old line told new = Keeps old (with_lines old (answer_lines old.questions (map answer_told told)) line (length told)) new
+
+-- a call of these words was, which an allocator serves
 abbrev pub KeepsAsked : CaptureState → (call : Option (List (List ℕ))) → List CaptureAnswer → CaptureState → Type 0
 KeepsAsked old None told new = ⊥
-KeepsAsked old (Some call) told new = Keeps old (with_lines old (answer_lines old.questions (map answer_told told)) (line_of call) (length told)) new
+KeepsAsked old (Some call) told new = KeepsLine old (line_of call) told new
 
 -- a capture began with these lines, behind so many questions
 abbrev pub BeginsWith : List ℕ → (questions : ℕ) → CaptureState → Type 0

@@ -1,12 +1,10 @@
 //! What the calls keep of the capture that lies behind a handle, and what they show of it.
 
 ghost use Rattle.std.specs.Prelude.{◌≡◌, ◌≢◌, ◌+◌, ◌≤◌, ◌↔◌, [], ◌∷◌, ◌++◌, length, map, take, drop, Some, None, IfOk, IsSomeAnd};
-ghost use Rattle.gpu_capture.specs.Answers.{answer_lines};
 ghost use Rattle.gpu_capture.specs.Budgets.{Bounds};
 ghost use Rattle.gpu_capture.specs.CaptureState.{text};
-ghost use Rattle.gpu_capture.specs.Keeps.{Keeps, with_lines};
 ghost use Rattle.gpu_capture.specs.Requests.{alloc_line, move_line, committed_line};
-ghost use Rattle.gpu_c.specs.Capture.{answer_told, refusal_told, end_number};
+ghost use Rattle.gpu_c.specs.Capture.{answer_told, refusal_told, end_number, KeepsLine};
 ghost use Rattle.gpu_c.specs.MemoryType.{number_if};
 ghost use Rattle.gpu_c.specs.Status as status;
 ghost use Rattle.gpu_c.specs.Status.{IsOneOf};
@@ -60,9 +58,7 @@ fn keep_allocated(
     request: &Request<'_>,
     told: &[CaptureAnswer],
 )
-    ensures { Keeps capture.old (with_lines capture.old
-        (answer_lines capture.old.questions (map answer_told told.now))
-        (alloc_line number request.now) (length told.now)) capture.new }
+    ensures { KeepsLine capture.old (alloc_line number request.now) told.now capture.new }
 {
     match answers_told(alloc, told) {
         Ok(answers) => capture.allocated(alloc, number, request, &answers),
@@ -77,9 +73,7 @@ fn keep_committed(
     request: &D3D12Request<'_>,
     told: &[CaptureAnswer],
 )
-    ensures { Keeps capture.old (with_lines capture.old
-        (answer_lines capture.old.questions (map answer_told told.now))
-        (committed_line number request.now) (length told.now)) capture.new }
+    ensures { KeepsLine capture.old (committed_line number request.now) told.now capture.new }
 {
     match answers_told(alloc, told) {
         Ok(answers) => capture.committed(alloc, number, request, &answers),
@@ -95,9 +89,8 @@ pub fn allocated(
     request: Option<Request<'_>>,
     told: &[CaptureAnswer],
 ) -> u32
-    ensures kept { result ≡ status.ok → IsSomeAnd request.entry (λ r. Keeps capture.old
-        (with_lines capture.old (answer_lines capture.old.questions (map answer_told told.now))
-        (alloc_line number r) (length told.now)) capture.new) }
+    ensures kept { result ≡ status.ok → IsSomeAnd request.entry
+        (λ r. KeepsLine capture.old (alloc_line number r) told.now capture.new) }
     ensures invalid { (result ≡ status.invalid) ↔ (request.entry ≡ None) }
     ensures statuses { IsOneOf result (status.ok ∷ status.invalid ∷ []) }
     ensures refused { result ≢ status.ok → capture.new ≡ capture.old }
@@ -119,9 +112,8 @@ pub fn committed(
     request: Option<D3D12Request<'_>>,
     told: &[CaptureAnswer],
 ) -> u32
-    ensures kept { result ≡ status.ok → IsSomeAnd request.entry (λ r. Keeps capture.old
-        (with_lines capture.old (answer_lines capture.old.questions (map answer_told told.now))
-        (committed_line number r) (length told.now)) capture.new) }
+    ensures kept { result ≡ status.ok → IsSomeAnd request.entry
+        (λ r. KeepsLine capture.old (committed_line number r) told.now capture.new) }
     ensures invalid { (result ≡ status.invalid) ↔ (request.entry ≡ None) }
     ensures statuses { IsOneOf result (status.ok ∷ status.invalid ∷ []) }
     ensures refused { result ≢ status.ok → capture.new ≡ capture.old }
@@ -143,8 +135,8 @@ pub fn moved(
     to: u64,
     request: Option<Request<'_>>,
 ) -> u32
-    ensures kept { result ≡ status.ok → IsSomeAnd request.entry (λ r. Keeps capture.old
-        (with_lines capture.old [] (move_line from to r) 0) capture.new) }
+    ensures kept { result ≡ status.ok → IsSomeAnd request.entry
+        (λ r. KeepsLine capture.old (move_line from to r) [] capture.new) }
     ensures invalid { (result ≡ status.invalid) ↔ (request.entry ≡ None) }
     ensures statuses { IsOneOf result (status.ok ∷ status.invalid ∷ []) }
     ensures refused { result ≢ status.ok → capture.new ≡ capture.old }

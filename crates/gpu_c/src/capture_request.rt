@@ -5,7 +5,6 @@ ghost use Rattle.gpu_capture.specs.D3D12.{category_word, committed_words, whole_
 ghost use Rattle.gpu_capture.specs.Line.{name_word};
 ghost use Rattle.gpu_capture.specs.Requests.{request_words};
 ghost use Rattle.gpu_capture.specs.declared.request.Request.TheVariants as requests;
-ghost use Rattle.gpu_capture.specs.Devices.{d3d12_lines, metal_lines};
 ghost use Rattle.gpu_c.specs.Allocator.{SaysNothing};
 ghost use Rattle.gpu_c.specs.Heaps as heaps;
 ghost use Rattle.gpu_c.specs.MetalHeaps as metal_heaps;
