@@ -5,8 +5,8 @@ use Rattle.std.proofs.lemmas.Bool.{false≢true}
 use Rattle.gpu_values.specs.declared.error.AllocationError.TheVariants.{OutOfMemory}
 use Rattle.gpu_block_pieces.specs.FreeList.{FreeList}
 use Rattle.gpu_block_pieces.specs.Request.{Request}
-use Rattle.gpu_block_pieces.specs.Changes.{Renames}
-use Rattle.gpu_block.specs.Block.{Block, free_list, dedicated, TakesIn, ReleasesIn, RenamesIn, IsAllocateRefusalIn, IsSoundBlock}
+use Rattle.gpu_block_pieces.specs.Changes.{Said, Relabels}
+use Rattle.gpu_block.specs.Block.{Block, free_list, dedicated, TakesIn, ReleasesIn, RelabelsIn, IsAllocateRefusalIn, IsSoundBlock}
 use Rattle.gpu_block_pieces.proofs.OneOutcome.{takes_once, takes_or_none, releases_once, same_block}
 
 pub take_once_in : (old : Block) (r : Request) (o p n m : ℕ) (new next : Block) → IsSoundBlock old → TakesIn old r o n new → TakesIn old r p m next → (o ≡ p) × (n ≡ m) × (new ≡ next)
@@ -42,14 +42,14 @@ release_once_in (dedicated old) n (dedicated new) (dedicated next) sound t u = a
 release_once_in (dedicated old) n (dedicated new) (free_list next) sound t u = absurd u
 release_once_in (dedicated old) n (free_list new) next sound t u = absurd t
 
-renames_once : (old : FreeList) (n : ℕ) (name : List ℕ) (new next : FreeList) → Renames old n name new → Renames old n name next → new ≡ next
-renames_once old n name new next t u =
+relabels_once : (old : FreeList) (n : ℕ) (said : Said) (new next : FreeList) → Relabels old n said new → Relabels old n said next → new ≡ next
+relabels_once old n said new next t u =
     same_block new next (t.same.0 ∙ sym u.same.0) (t.same.1 ∙ sym u.same.1) (t.same.2 ∙ sym u.same.2) (t.extents ∙ sym u.extents) (t.same.3 ∙ sym u.same.3)
 
-pub rename_once_in : (old : Block) (n : ℕ) (name : List ℕ) (new next : Block) → RenamesIn old n name new → RenamesIn old n name next → new ≡ next
-rename_once_in (free_list old) n name (free_list new) (free_list next) t u = ap free_list (renames_once old n name new next t u)
-rename_once_in (free_list old) n name (free_list new) (dedicated next) t u = absurd u
-rename_once_in (free_list old) n name (dedicated new) next t u = absurd t
-rename_once_in (dedicated old) n name (dedicated new) (dedicated next) t u = ap dedicated (t.2 ∙ sym u.2)
-rename_once_in (dedicated old) n name (dedicated new) (free_list next) t u = absurd u
-rename_once_in (dedicated old) n name (free_list new) next t u = absurd t
+pub relabel_once_in : (old : Block) (n : ℕ) (said : Said) (new next : Block) → RelabelsIn old n said new → RelabelsIn old n said next → new ≡ next
+relabel_once_in (free_list old) n said (free_list new) (free_list next) t u = ap free_list (relabels_once old n said new next t u)
+relabel_once_in (free_list old) n said (free_list new) (dedicated next) t u = absurd u
+relabel_once_in (free_list old) n said (dedicated new) next t u = absurd t
+relabel_once_in (dedicated old) n said (dedicated new) (dedicated next) t u = ap dedicated (t.2 ∙ sym u.2)
+relabel_once_in (dedicated old) n said (dedicated new) (free_list next) t u = absurd u
+relabel_once_in (dedicated old) n said (free_list new) next t u = absurd t

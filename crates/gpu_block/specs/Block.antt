@@ -8,10 +8,10 @@ use Rattle.gpu_block_pieces.specs.Request.{Request}
 use Rattle.gpu_cost.specs.Cost.{Counts, Rises}
 use Rattle.gpu_block_pieces.specs.Place.{HasNoPlace}
 use Rattle.gpu_block_pieces.specs.Search.{IsSearch}
-use Rattle.gpu_block_pieces.specs.Changes.{Takes, Releases, Renames}
+use Rattle.gpu_block_pieces.specs.Changes.{Said, named, worded, Takes, Releases, Relabels}
 use Rattle.gpu_values.specs.Refusal.{Refusal, refusal_of}
 use Rattle.gpu_block_pieces.specs.BlockRefusal.{IsAllocateRefusal, release_refusal, IsRenameRefusal}
-use Rattle.gpu_block.specs.Dedicated.{Dedicated, held_extents, IsWhole, DedicatedTakes, IsDedicatedAllocateRefusal, DedicatedReleases, IsDedicatedReleaseRefusal, DedicatedRenames}
+use Rattle.gpu_block.specs.Dedicated.{Dedicated, held_extents, IsWhole, DedicatedTakes, IsDedicatedAllocateRefusal, DedicatedReleases, IsDedicatedReleaseRefusal, DedicatedRelabels}
 use Rattle.gpu_block.specs.Dedicated.{IsDedicatedRenameRefusal}
 use Rattle.gpu_block_pieces.specs.Laws.{IsSound, IsInOrder, IsPageSeparated, IsLongEnough, IsForChunkIds, IsCovered}
 
@@ -64,12 +64,18 @@ ReleasesIn (free_list old) chunk_id (dedicated new) = ⊥
 ReleasesIn (dedicated old) chunk_id (free_list new) = ⊥
 ReleasesIn (dedicated old) chunk_id (dedicated new) = DedicatedReleases old chunk_id new
 
--- what a new name leaves
+-- what a new name or word leaves
+abbrev pub RelabelsIn : Block → ℕ → Said → Block → Type 0
+RelabelsIn (free_list old) chunk_id said (free_list new) = Relabels old chunk_id said new
+RelabelsIn (free_list old) chunk_id said (dedicated new) = ⊥
+RelabelsIn (dedicated old) chunk_id said (free_list new) = ⊥
+RelabelsIn (dedicated old) chunk_id said (dedicated new) = DedicatedRelabels old chunk_id said new
+
 abbrev pub RenamesIn : Block → ℕ → List ℕ → Block → Type 0
-RenamesIn (free_list old) chunk_id name (free_list new) = Renames old chunk_id name new
-RenamesIn (free_list old) chunk_id name (dedicated new) = ⊥
-RenamesIn (dedicated old) chunk_id name (free_list new) = ⊥
-RenamesIn (dedicated old) chunk_id name (dedicated new) = DedicatedRenames old chunk_id name new
+RenamesIn old chunk_id name new = RelabelsIn old chunk_id (named name) new
+
+abbrev pub SetsWordIn : Block → (chunk_id word : ℕ) → Block → Type 0
+SetsWordIn old chunk_id word new = RelabelsIn old chunk_id (worded word) new
 
 -- ---- why a call is refused
 
@@ -89,7 +95,7 @@ IsReleaseRefusalIn (free_list b) id refusal =
     (refusal ≡ release_refusal id) × IfSome id (λ n. SomeExtent b (λ x. x.chunk_id ≡ non_zero_u64_get n) → ⊥)
 IsReleaseRefusalIn (dedicated b) id refusal = IsDedicatedReleaseRefusal b id refusal
 
--- why a new name is refused
+-- why a new name or word is refused
 abbrev pub IsRenameRefusalIn : Block → Option NonZeroU64 → Refusal → Type 0
 IsRenameRefusalIn (free_list b) id refusal = IsRenameRefusal b id refusal
 IsRenameRefusalIn (dedicated b) id refusal = IsDedicatedRenameRefusal b id refusal

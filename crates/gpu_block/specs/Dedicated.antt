@@ -5,6 +5,7 @@ use Rattle.std.specs.Int.NonZero.{non_zero_u64_get}
 use Rattle.std.specs.declared.num.NonZeroU64.{NonZeroU64}
 use Rattle.gpu_block_pieces.specs.FreeList.{Extent}
 use Rattle.gpu_block_pieces.specs.Request.{Request}
+use Rattle.gpu_block_pieces.specs.Changes.{Said, named, worded, relabel}
 use Rattle.gpu_values.specs.Refusal.{Refusal, internal, out_of_memory, host_out_of_memory}
 
 -- its size in bytes, and the piece that it holds, if any
@@ -22,7 +23,7 @@ held_extents b = option_to_list b.piece
 
 -- the piece is the whole block, with number 1
 abbrev pub whole_extent : Request → Extent
-whole_extent r = record { start = 0; offset = 0; end = r.size; kind = r.kind; chunk_id = 1; name = r.name }
+whole_extent r = record { start = 0; offset = 0; end = r.size; kind = r.kind; chunk_id = 1; name = r.name; word = 0 }
 
 -- a piece is the whole block
 abbrev pub IsWhole : Dedicated → Type 0
@@ -44,14 +45,16 @@ IsDedicatedAllocateRefusal b r refusal =
 abbrev pub DedicatedReleases : Dedicated → ℕ → Dedicated → Type 0
 DedicatedReleases old chunk_id new = IsSome old.piece × (chunk_id ≡ 1) × (new ≡ empty_dedicated old.size)
 
--- a piece with another name
-abbrev pub renamed : List ℕ → Extent → Extent
-renamed name x = record x { name = name }
+-- the piece has another name or word
+abbrev pub DedicatedRelabels : Dedicated → ℕ → Said → Dedicated → Type 0
+DedicatedRelabels old chunk_id said new =
+    IsSome old.piece × (chunk_id ≡ 1) × (new ≡ record old { piece = option_map (relabel said) old.piece })
 
--- the piece has another name
 abbrev pub DedicatedRenames : Dedicated → ℕ → List ℕ → Dedicated → Type 0
-DedicatedRenames old chunk_id name new =
-    IsSome old.piece × (chunk_id ≡ 1) × (new ≡ record old { piece = option_map (renamed name) old.piece })
+DedicatedRenames old chunk_id name new = DedicatedRelabels old chunk_id (named name) new
+
+abbrev pub DedicatedSetsWord : Dedicated → (chunk_id word : ℕ) → Dedicated → Type 0
+DedicatedSetsWord old chunk_id word new = DedicatedRelabels old chunk_id (worded word) new
 
 -- why a number names no piece of the block: it is missing or not 1, or else nothing is held, which `freed` says
 abbrev pub IsNotHeld : Dedicated → Option NonZeroU64 → List ℕ → Refusal → Type 0
@@ -64,7 +67,7 @@ IsNotHeld b (Some n) freed refusal =
 abbrev pub IsDedicatedReleaseRefusal : Dedicated → Option NonZeroU64 → Refusal → Type 0
 IsDedicatedReleaseRefusal b id refusal = IsNotHeld b id (codes "Attempting to free a freed allocation.") refusal
 
--- a new name is also refused for lack of host memory, where the number is the piece's
+-- a new name or word is refused so; a name also for lack of host memory, where the number is the piece's
 abbrev pub IsDedicatedRenameRefusal : Dedicated → Option NonZeroU64 → Refusal → Type 0
 IsDedicatedRenameRefusal b id refusal =
     IsNotHeld b id (codes "Attempting to rename a freed allocation.") refusal

@@ -1,5 +1,6 @@
 pub mod Dedicated
 pub mod Block
+pub mod Said
 pub mod SubAllocator
 pub mod BlockViews
 pub use Rattle.gpu_block_pieces.specs.Rows

@@ -3,8 +3,9 @@
 ghost use Rattle.std.specs.Prelude.{◌≡◌, ◌<◌, ◌≤◌, IfOk, OnOk, OnErr, IfErr, IfSome, IsSomeAnd, codes, None, IsTrue, ◌↔◌, ◌≢◌, []};
 ghost use Rattle.std.specs.Int.NonZero.{non_zero_u64_get};
 ghost use Rattle.gpu_values.specs.Refusal.{refusal_of, internal};
+ghost use Rattle.gpu_values.specs.declared.error.AllocationError.TheVariants.{HostOutOfMemory};
 
-use gpu_block_chunks::{Chunk, Name};
+use gpu_block_chunks::{Chunk, Label, Name, NewLabel};
 use gpu_values::{AllocationError, AllocationType, Result, internal_fault};
 use std::alloc::Global;
 use std::marker::Model;
@@ -47,7 +48,7 @@ impl DedicatedBlockAllocator {
     ghost use Rattle.gpu_block_pieces.specs.Request.{Request, request};
     ghost use Rattle.gpu_block.specs.Block.{HasNoPlaceIn, dedicated};
     ghost use Rattle.gpu_block_pieces.specs.Pieces.{gaps_between, longest};
-    ghost use Rattle.gpu_block.specs.Dedicated.{IsWhole, empty_dedicated, held_extents, DedicatedTakes, IsDedicatedAllocateRefusal, DedicatedReleases, IsDedicatedReleaseRefusal, DedicatedRenames, IsDedicatedRenameRefusal};
+    ghost use Rattle.gpu_block.specs.Dedicated.{IsWhole, empty_dedicated, held_extents, DedicatedTakes, IsDedicatedAllocateRefusal, DedicatedReleases, IsDedicatedReleaseRefusal, DedicatedRenames, DedicatedSetsWord, IsDedicatedRenameRefusal};
 
     /// An empty block of `size` bytes, which isn't 0. It takes no memory.
     pub fn new(alloc: Global, size: u64) -> Self
@@ -84,14 +85,14 @@ impl DedicatedBlockAllocator {
         if size != self.size {
             return Err(internal_fault("DedicatedBlockAllocator size must match allocation size."));
         }
-        let name = Name::new(self.alloc, name)?;
+        let label = Label::of(NewLabel::new(self.alloc, name)?);
         self.piece = Some(Chunk {
             start: 0,
             size,
             offset: 0,
             kind,
             chunk_id: 1,
-            name,
+            label,
         });
         Ok((0, NonZeroU64::MIN))
     }
@@ -128,10 +129,29 @@ impl DedicatedBlockAllocator {
         match &mut self.piece {
             None => Err(internal_fault("Attempting to rename a freed allocation.")),
             Some(chunk) => {
-                chunk.name = Name::new(self.alloc, name)?;
+                chunk.label.name = Name::new(self.alloc, name)?;
                 Ok(())
             }
         }
+    }
+
+    /// Keeps another word of the caller's with the piece. `Internal`, as for a new name, where the number is missing or isn't 1, or no
+    /// piece is held, and then the block stays as it was. It takes no memory.
+    pub fn set_word(&mut self, chunk_id: Option<NonZeroU64>, word: u64) -> Result<()>
+        ensures set { OnOk result (IsSomeAnd chunk_id
+            (λ n. DedicatedSetsWord self.old (non_zero_u64_get n) word self.new)) }
+        ensures cause { IfErr result (λ e. IsDedicatedRenameRefusal self.old chunk_id
+            (refusal_of e)) }
+        ensures no_memory { IfErr result (λ e. e ≢ HostOutOfMemory) }
+        ensures refused { OnErr result (self.new ≡ self.old) }
+        ensures sound { OnOk result (IsWhole self.new) }
+    {
+        first(chunk_id)?;
+        let Some(chunk) = &mut self.piece else {
+            return Err(internal_fault("Attempting to rename a freed allocation."));
+        };
+        chunk.label.word = word;
+        Ok(())
     }
 
     /// The bytes of the piece; 0 where none is held.

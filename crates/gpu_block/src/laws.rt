@@ -2,7 +2,7 @@
 
 ghost use Rattle.std.specs.Prelude.{◌≡◌, ℕ, List};
 ghost use Rattle.gpu_values.specs.declared.error.AllocationError.TheVariants.{OutOfMemory};
-ghost use Rattle.gpu_block.specs.Block.{Block, TakesIn, ReleasesIn, RenamesIn, IsAllocateRefusalIn, IsSoundBlock};
+ghost use Rattle.gpu_block.specs.Block.{Block, TakesIn, ReleasesIn, RenamesIn, SetsWordIn, IsAllocateRefusalIn, IsSoundBlock};
 ghost use Rattle.gpu_block_pieces.specs.Request.{Request};
 
 pub use gpu_block_pieces::laws::{
@@ -29,8 +29,10 @@ pub fn one_release_in()
         → ReleasesIn old n new → ReleasesIn old n next → new ≡ next }
 {}
 
-/// A new name in a block has one outcome.
+/// A new name in a block has one outcome, and so has a new word.
 pub fn one_rename_in()
-    ensures { (old : Block) (n : ℕ) (name : List ℕ) (new next : Block)
+    ensures renamed { (old : Block) (n : ℕ) (name : List ℕ) (new next : Block)
         → RenamesIn old n name new → RenamesIn old n name next → new ≡ next }
+    ensures word { (old : Block) (n word : ℕ) (new next : Block) → SetsWordIn old n word new
+        → SetsWordIn old n word next → new ≡ next }
 {}

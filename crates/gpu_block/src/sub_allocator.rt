@@ -10,6 +10,7 @@ ghost use Rattle.gpu_values.specs.Report.{row_of};
 ghost use Rattle.gpu_block_pieces.specs.Rows.{extent_row};
 
 use crate::DedicatedBlockAllocator;
+use crate::said::Said;
 use gpu_block_pieces::{
     BlockStatistics, FreeListAllocator, Gaps, Leaks, Pieces, count_pieces, texts_of,
 };
@@ -31,7 +32,8 @@ impl SubAllocator {
     ghost use Rattle.gpu_block_pieces.specs.Leak.{leak_text};
     ghost use Rattle.gpu_block_pieces.specs.Pieces.{LieBetween};
     ghost use Rattle.gpu_block.specs.BlockViews.{gaps_in, statistics_of, leaks_of};
-    ghost use Rattle.gpu_block.specs.Block.{extents_of, size_of, allocated_bytes, is_shared, HasPages, TakesIn, HasNoPlaceIn, IsAllocateRefusalIn, ReleasesIn, IsReleaseRefusalIn, RenamesIn, IsRenameRefusalIn, IsSoundBlock, IsOrderedBlock, HasPagesApart, IsCoveredBlock, IsFitLaw, IsSearchIn, CountsRise};
+    ghost use Rattle.gpu_block.specs.Said.{said_of, MayStarve};
+    ghost use Rattle.gpu_block.specs.Block.{extents_of, size_of, allocated_bytes, is_shared, HasPages, TakesIn, HasNoPlaceIn, IsAllocateRefusalIn, ReleasesIn, IsReleaseRefusalIn, RenamesIn, SetsWordIn, RelabelsIn, IsRenameRefusalIn, IsSoundBlock, IsOrderedBlock, HasPagesApart, IsCoveredBlock, IsFitLaw, IsSearchIn, CountsRise};
 
     /// Allocates `size` bytes, and returns the piece's offset in bytes and its chunk id. A free list takes the least place
     /// in the shortest gap that fits, and refuses by `OutOfMemory` where there is none. A dedicated block takes a piece of
@@ -117,6 +119,52 @@ impl SubAllocator {
         match self {
             SubAllocator::FreeList(list) => list.rename_allocation(chunk_id, name),
             SubAllocator::Dedicated(block) => block.rename_allocation(chunk_id, name),
+        }
+    }
+
+    /// Keeps another word of the caller's with a live piece. `Internal`, as for a new name, where the number is missing or is no live
+    /// piece's, and then the block stays as it was. It takes no memory.
+    #[tactic(auto, unfolding(crate::specs::Block::CountsRise))]
+    pub fn set_word(&mut self, chunk_id: Option<NonZeroU64>, word: u64) -> Result<()>
+        ensures set { OnOk result (IsSomeAnd chunk_id
+            (λ n. SetsWordIn (block_of self.old) (non_zero_u64_get n) word (block_of self.new))) }
+        ensures cause { IfErr result (λ e. IsRenameRefusalIn (block_of self.old) chunk_id
+            (refusal_of e)) }
+        ensures no_memory { IfErr result (λ e. e ≢ HostOutOfMemory) }
+        ensures refused { OnErr result (block_of self.new ≡ block_of self.old) }
+        ensures pages { (g : ℕ) → HasPages (block_of self.old) g → HasPages (block_of self.new) g }
+        ensures sound { OnOk result (IsSoundBlock (block_of self.new)) }
+        ensures ordered { OnOk result (IsOrderedBlock (block_of self.new)) }
+        ensures separated { OnOk result (HasPagesApart (block_of self.new)) }
+        ensures covered { OnOk result (IsCoveredBlock (block_of self.new)) }
+        ensures cost { CountsRise (cost_of self.old) (cost_of self.new) }
+    {
+        match self {
+            SubAllocator::FreeList(list) => list.set_word(chunk_id, word),
+            SubAllocator::Dedicated(block) => block.set_word(chunk_id, word),
+        }
+    }
+
+    /// Gives a live piece the name, or keeps the word with it, as the two calls above do.
+    #[tactic(auto, unfolding(crate::specs::Block::CountsRise))]
+    pub fn relabel(&mut self, chunk_id: Option<NonZeroU64>, said: Said<'_>) -> Result<()>
+        ensures relabelled { OnOk result (IsSomeAnd chunk_id
+            (λ n. RelabelsIn (block_of self.old) (non_zero_u64_get n) (said_of said.entry)
+            (block_of self.new))) }
+        ensures cause { IfErr result (λ e. IsRenameRefusalIn (block_of self.old) chunk_id
+            (refusal_of e)) }
+        ensures starved { IfErr result (λ e. e ≡ HostOutOfMemory → MayStarve (said_of said.entry)) }
+        ensures refused { OnErr result (block_of self.new ≡ block_of self.old) }
+        ensures pages { (g : ℕ) → HasPages (block_of self.old) g → HasPages (block_of self.new) g }
+        ensures sound { OnOk result (IsSoundBlock (block_of self.new)) }
+        ensures ordered { OnOk result (IsOrderedBlock (block_of self.new)) }
+        ensures separated { OnOk result (HasPagesApart (block_of self.new)) }
+        ensures covered { OnOk result (IsCoveredBlock (block_of self.new)) }
+        ensures cost { CountsRise (cost_of self.old) (cost_of self.new) }
+    {
+        match said {
+            Said::Name(name) => self.rename_allocation(chunk_id, name),
+            Said::Word(word) => self.set_word(chunk_id, word),
         }
     }
 

@@ -5,6 +5,7 @@ use Rattle.std.proofs.lemmas.Bool.{false≢true}
 use Rattle.std.proofs.lemmas.List.{map-set, length-map, length-set, get_or-map, get_or-set_same, get_or-set_other, get_or_past}
 use Rattle.std.proofs.lemmas.List.Sums.{sum_by-set}
 use Rattle.std.proofs.lemmas.Option.{slice_get_within, slice_get-get_or, get_or_from_slice_get}
+use Rattle.gpu_block_chunks.specs.Label.{no_label}
 use Rattle.gpu_block_chunks.specs.declared.chain.link.LinkedChunk.{LinkedChunk}
 use Rattle.gpu_block_chunks.specs.Slots.{Stored, ChangesSlot}
 use Rattle.gpu_block_chunks.specs.FreeSlots.{Slot, Taken, Free, chunk_in, IsFreeList, IsSound}
@@ -30,7 +31,7 @@ list_kept slots at x zero first off p = p
 list_kept slots at x (suc n) first off p =
     let other : p.0 ≢ at = λ same. off n (omega arith) (p.0, p.1, ap (λ (s : ℕ). Some s) (sym same), p.3, p.4) in
     let within = slice_get_within slots p.0 _ p.3 in
-    let kept : slice_get (set slots at x) p.0 ≡ Some (Free p.1 []) =
+    let kept : slice_get (set slots at x) p.0 ≡ Some (Free p.1 no_label) =
     slice_get-get_or (set slots at x) p.0 x (omega (arith, length-set slots at x))
     ∙ ap (λ (y : Slot). Some y) (get_or-set_other slots at p.0 x x other ∙ get_or_from_slice_get slots p.0 _ x p.3) in
     (p.0, p.1, p.2, kept, list_kept slots at x n p.1 (λ m below. off m (omega arith)) p.4)
@@ -57,23 +58,23 @@ pub taken_at : (slots : List Slot) (at : ℕ) → IsSome (get_or (map chunk_in s
 taken_at slots at present =
     let inside : at < length (map chunk_in slots) = grind (arith, get_or_past) in
     let within : at < length slots = omega (arith, length-map slots chunk_in) in
-    by_slot (get_or slots at (Free None [])) (slice_get-get_or slots at (Free None []) within) (subst IsSome (get_or-map chunk_in slots at (Free None []) None within) present)
+    by_slot (get_or slots at (Free None no_label)) (slice_get-get_or slots at (Free None no_label) within) (subst IsSome (get_or-map chunk_in slots at (Free None no_label) None within) present)
   where
     by_slot : (x : Slot) → slice_get slots at ≡ Some x → IsSome (chunk_in x) → (chunk : LinkedChunk) × (slice_get slots at ≡ Some (Taken chunk))
-    by_slot (Free next name) found some = absurd (false≢true some)
+    by_slot (Free next label) found some = absurd (false≢true some)
     by_slot (Taken chunk) found some = (chunk, found)
 
 -- the first free slot is free
-pub first_free : (slots : List Slot) (live : ℕ) (first : Option ℕ) (at : ℕ) → IsSound slots live first → first ≡ Some at → (next : Option ℕ) × (slice_get slots at ≡ Some (Free next []))
+pub first_free : (slots : List Slot) (live : ℕ) (first : Option ℕ) (at : ℕ) → IsSound slots live first → first ≡ Some at → (next : Option ℕ) × (slice_get slots at ≡ Some (Free next no_label))
 first_free slots live first at sound is = by_count sound.free sound.linked
   where
-    by_count : (n : ℕ) → IsFreeList slots n first → (next : Option ℕ) × (slice_get slots at ≡ Some (Free next []))
+    by_count : (n : ℕ) → IsFreeList slots n first → (next : Option ℕ) × (slice_get slots at ≡ Some (Free next no_label))
     by_count zero none = absurd (let no : first ≡ None = none in cc)
     by_count (suc n) p =
         let a = p.2 in
         let b = p.3 in
         let slot : p.0 ≡ at = cc in
-        (p.1, subst (λ (s : ℕ). slice_get slots s ≡ Some (Free p.1 [])) slot b)
+        (p.1, subst (λ (s : ℕ). slice_get slots s ≡ Some (Free p.1 no_label)) slot b)
 
 -- with no free slot, all are taken
 pub all_taken : (slots : List Slot) (live : ℕ) (first : Option ℕ) → IsSound slots live first → first ≡ None → live ≡ length slots
@@ -89,7 +90,7 @@ read_at slots at x y found read = read ∙ get_or_from_slice_get slots at x y fo
 
 -- the first free slot is taken: the rest of the list is shorter, so it does not come back to that slot
 pub sound_filled : (slots : List Slot) (live : ℕ) (first next : Option ℕ) (at : ℕ) (chunk : LinkedChunk) → IsSound slots live first → first ≡ Some at
-    → slice_get slots at ≡ Some (Free next []) → IsSound (set slots at (Taken chunk)) (live + 1) next
+    → slice_get slots at ≡ Some (Free next no_label) → IsSound (set slots at (Taken chunk)) (live + 1) next
 sound_filled slots live first next at chunk sound is found = by_count sound.free sound.total sound.linked
   where
     by_count : (n : ℕ) → live + n ≡ length slots → IsFreeList slots n first → IsSound (set slots at (Taken chunk)) (live + 1) next
@@ -102,7 +103,7 @@ sound_filled slots live first next at chunk sound is found = by_count sound.free
         let off : (m : ℕ) → m < n → IsFreeList slots (suc m) (Some at) → ⊥ =
         λ m below q. omega (arith, one_length slots (suc m) (suc n) first (subst (IsFreeList slots (suc m)) (sym is) q) p) in
         record {
-          counted = omega (arith, sound.counted, count_after slots at (Free next []) (Taken chunk) found);
+          counted = omega (arith, sound.counted, count_after slots at (Free next no_label) (Taken chunk) found);
           free = n;
           total = omega (arith, length-set slots at (Taken chunk));
           linked = list_kept slots at (Taken chunk) n next off (subst (IsFreeList slots n) after p.4);
@@ -110,19 +111,19 @@ sound_filled slots live first next at chunk sound is found = by_count sound.free
 
 -- a taken slot becomes the first free one
 pub sound_freed : (slots : List Slot) (live : ℕ) (first : Option ℕ) (at : ℕ) (chunk : LinkedChunk) → IsSound slots live first → slice_get slots at ≡ Some (Taken chunk)
-    → IsSound (set slots at (Free first [])) (live - 1) (Some at)
+    → IsSound (set slots at (Free first no_label)) (live - 1) (Some at)
 sound_freed slots live first at chunk sound found =
     let within = slice_get_within slots at _ found in
-    let count = count_after slots at (Taken chunk) (Free first []) found in
+    let count = count_after slots at (Taken chunk) (Free first no_label) found in
     let was = sound.counted in
-    let written : slice_get (set slots at (Free first [])) at ≡ Some (Free first []) =
-    slice_get-get_or _ at (Free first []) (omega (arith, length-set slots at (Free first [])))
-    ∙ ap (λ (y : Slot). Some y) (get_or-set_same slots at (Free first []) (Free first []) within) in
+    let written : slice_get (set slots at (Free first no_label)) at ≡ Some (Free first no_label) =
+    slice_get-get_or _ at (Free first no_label) (omega (arith, length-set slots at (Free first no_label)))
+    ∙ ap (λ (y : Slot). Some y) (get_or-set_same slots at (Free first no_label) (Free first no_label) within) in
     record {
       counted = omega arith;
       free = suc sound.free;
-      total = omega (arith, sound.total, length-set slots at (Free first []));
-      linked = (at, first, refl, written, list_kept slots at (Free first []) sound.free first (λ m below. taken_off slots at chunk found m) sound.linked);
+      total = omega (arith, sound.total, length-set slots at (Free first no_label));
+      linked = (at, first, refl, written, list_kept slots at (Free first no_label) sound.free first (λ m below. taken_off slots at chunk found m) sound.linked);
     }
 
 -- a chunk in place of another

@@ -10,14 +10,16 @@ use Rattle.gpu_block_chunks.specs.declared.chain.Neighbour.{Neighbour}
 use Rattle.gpu_block_chunks.specs.declared.chain.Neighbours.{Neighbours}
 use Rattle.gpu_values.specs.declared.allocation_type.AllocationType.{AllocationType}
 use Rattle.gpu_values.specs.declared.allocation_type.AllocationType.TheVariants.{Free, Linear, NonLinear}
+use Rattle.gpu_block_chunks.specs.declared.label.Label.{Label}
+use Rattle.gpu_block_chunks.specs.Label.{no_label}
 use Rattle.gpu_block_chunks.specs.ChunkList.{IsFree, filled_chunk, cut_chunk, join_kinds, join_back, join_front, AreDistinct}
-use Rattle.gpu_block_chunks.specs.Chain.{Name, first_or, last_or, node_of, Held, Apart, Distinct, Numbered, Among, IsChain, chunks_in, StandsAt, HasChunkId, HasNoChunkId, AreNeighbours, IsChunkAt}
-use Rattle.gpu_block_chunks.specs.Chain.{IsLonger, IsSplit, IsFilled, IsReleased, from_chunk_id, beside, beside_of, around_of, last_beside, first_beside, longer, right_chunk, right_rest, glue_left}
-use Rattle.gpu_block_chunks.specs.Chain.{is_free_kind, front_piece, ChangesAt, used_node, JoinsRight, JoinsLeft, JoinsUnder, LinkedAt, HasNoPiece, ReleasesPiece, first_of, walk}
+use Rattle.gpu_block_chunks.specs.Chain.{first_or, last_or, node_of, Held, Apart, Distinct, Numbered, Among, IsChain, chunks_in, StandsAt, HasChunkId, HasNoChunkId, AreNeighbours, IsChunkAt}
+use Rattle.gpu_block_chunks.specs.Chain.{IsLonger, IsSplit, IsFilled, IsWorded, IsReleased, from_chunk_id, beside, beside_of, around_of, last_beside, first_beside, longer, right_chunk, right_rest, glue_left}
+use Rattle.gpu_block_chunks.specs.Chain.{is_free_kind, front_piece, ChangesAt, used_node, worded_node, JoinsRight, JoinsLeft, JoinsUnder, LinkedAt, HasNoPiece, ReleasesPiece, first_of, walk}
 use Rattle.gpu_block_chunks.proofs.Links.{numbered_at, stands_from, same_test, apart_test, apart_front, held_front, held_back, apart_from_none}
 use Rattle.gpu_block_chunks.proofs.Parts.{All-parts}
 use Rattle.gpu_block_chunks.proofs.Splits.{IsCut, CanSplit}
-use Rattle.gpu_block_chunks.proofs.Unlinks.{freed, Opened, opened, fill_done, release_done, right_ready, left_ready, under_done}
+use Rattle.gpu_block_chunks.proofs.Unlinks.{freed, Opened, opened, fill_done, word_change, release_done, right_ready, left_ready, under_done}
 
 cons_parts : {X : Type 0} (c d : X) (b e : List X) → c ∷ b ≡ d ∷ e → (c ≡ d) × (b ≡ e)
 cons_parts c d b e h = (cc, cc)
@@ -140,20 +142,20 @@ none_held f first size ps cs chain e k none =
 pub can_split : (ps : List (ℕ × Chunk)) (cs : List Chunk) (k taken : ℕ) → chunks_in ps ≡ cs → Numbered ps → IsLonger cs k taken → CanSplit ps k taken
 can_split ps cs k taken e n l = record { chunk = l.chunk; among = among_stands ps cs k l.chunk e n l.at; longer = l.longer }
 
-pub split_listed : (ps qs : List (ℕ × Chunk)) (cs : List Chunk) (k taken chunk_id offset : ℕ) (kind : AllocationType) (name : Name) → chunks_in ps ≡ cs → Numbered ps
-    → IsCut ps k taken chunk_id offset kind name qs → IsSplit cs k taken chunk_id offset kind name (chunks_in qs)
-split_listed ps qs cs k taken chunk_id offset kind name e n c = record {
+pub split_listed : (ps qs : List (ℕ × Chunk)) (cs : List Chunk) (k taken chunk_id offset : ℕ) (kind : AllocationType) (label : Label) → chunks_in ps ≡ cs → Numbered ps
+    → IsCut ps k taken chunk_id offset kind label qs → IsSplit cs k taken chunk_id offset kind label (chunks_in qs)
+split_listed ps qs cs k taken chunk_id offset kind label e n c = record {
   chunk = c.chunk;
   at = stands_of ps c.front c.back cs k c.chunk c.was e n;
-  is = ap chunks_in c.is ∙ chunks_append c.front ((chunk_id, front_piece c.chunk taken offset kind chunk_id name) ∷ (k, cut_chunk c.chunk taken) ∷ c.back);
+  is = ap chunks_in c.is ∙ chunks_append c.front ((chunk_id, front_piece c.chunk taken offset kind chunk_id label) ∷ (k, cut_chunk c.chunk taken) ∷ c.back);
 }
 
-pub fill_listed : (ps qs front back : List (ℕ × Chunk)) (cs : List Chunk) (c : Chunk) (k offset : ℕ) (kind : AllocationType) (name : Name) → chunks_in ps ≡ cs → Numbered ps
-    → ps ≡ front ++ (k, c) ∷ back → qs ≡ front ++ (k, filled_chunk c offset kind name) ∷ back → IsFilled cs k offset kind name (chunks_in qs)
-fill_listed ps qs front back cs c k offset kind name e n was is = record {
+pub fill_listed : (ps qs front back : List (ℕ × Chunk)) (cs : List Chunk) (c : Chunk) (k offset : ℕ) (kind : AllocationType) (label : Label) → chunks_in ps ≡ cs → Numbered ps
+    → ps ≡ front ++ (k, c) ∷ back → qs ≡ front ++ (k, filled_chunk c offset kind label) ∷ back → IsFilled cs k offset kind label (chunks_in qs)
+fill_listed ps qs front back cs c k offset kind label e n was is = record {
   chunk = c;
   at = stands_of ps front back cs k c was e n;
-  is = ap chunks_in is ∙ chunks_append front ((k, filled_chunk c offset kind name) ∷ back);
+  is = ap chunks_in is ∙ chunks_append front ((k, filled_chunk c offset kind label) ∷ back);
 }
 
 right_by : (kind : AllocationType) (c : Chunk) (y : ℕ × Chunk) (ys : List (ℕ × Chunk))
@@ -178,11 +180,11 @@ left_listed (x ∷ []) k c back = left_by (x.1).kind x k c back
 left_listed (x ∷ (y ∷ ys)) k c back = ap (λ (cs : List Chunk). x.1 ∷ cs) (left_listed (y ∷ ys) k c back)
 
 pub release_listed : (ps qs front back : List (ℕ × Chunk)) (cs : List Chunk) (c : Chunk) (k : ℕ) → chunks_in ps ≡ cs → Numbered ps → ps ≡ front ++ (k, c) ∷ back
-    → qs ≡ glue_left front k (right_chunk (freed c []) back) (right_rest back) → IsReleased cs k (chunks_in qs)
+    → qs ≡ glue_left front k (right_chunk (freed c no_label) back) (right_rest back) → IsReleased cs k (chunks_in qs)
 release_listed ps qs front back cs c k e n was is = record {
   chunk = c;
   at = stands_of ps front back cs k c was e n;
-  is = ap chunks_in is ∙ left_listed front k (right_chunk (freed c []) back) (right_rest back) ∙ ap (join_front (chunks_in front)) (right_listed (freed c []) back);
+  is = ap chunks_in is ∙ left_listed front k (right_chunk (freed c no_label) back) (right_rest back) ∙ ap (join_front (chunks_in front)) (right_listed (freed c no_label) back);
 }
 
 -- ---- what the chain's methods use
@@ -191,19 +193,29 @@ module _ (f : ℕ → Option Node) (first size : ℕ) (ps : List (ℕ × Chunk))
   pub open_at : (k : ℕ) → HasChunkId cs k → Opened f first size ps k
   open_at k has = opened f first size ps k has.0 chain (among_stands ps cs k has.0 shown chain.numbered has.1)
 
-  pub filled : (g : ℕ → Option Node) (k offset : ℕ) (kind : AllocationType) (name : Name) → HasChunkId cs k → ChangesAt k (used_node offset kind name) f g
-      → IsChain g first size (walk size g (Some first)) × IsFilled cs k offset kind name (chunks_in (walk size g (Some first)))
-  filled g k offset kind name has change =
+  pub filled : (g : ℕ → Option Node) (k offset : ℕ) (kind : AllocationType) (label : Label) → HasChunkId cs k → ChangesAt k (used_node offset kind label) f g
+      → IsChain g first size (walk size g (Some first)) × IsFilled cs k offset kind label (chunks_in (walk size g (Some first)))
+  filled g k offset kind label has change =
       let o = open_at k has in
-      let d = fill_done f g first size ps k offset kind name o change in
-      (d.0, fill_listed ps (walk size g (Some first)) o.front o.back cs o.chunk k offset kind name shown chain.numbered o.was d.1)
+      let d = fill_done f g first size ps k offset kind label o change in
+      (d.0, fill_listed ps (walk size g (Some first)) o.front o.back cs o.chunk k offset kind label shown chain.numbered o.was d.1)
+
+  pub worded : (g : ℕ → Option Node) (k word : ℕ) → HasChunkId cs k → ChangesAt k (worded_node word) f g
+      → IsChain g first size (walk size g (Some first)) × IsWorded cs k word (chunks_in (walk size g (Some first)))
+  unfolding fill_listed
+  worded g k word has change =
+      let o = open_at k has in
+      let label : Label = record o.chunk.label { word = word } in
+      let d = fill_done f g first size ps k o.chunk.offset o.chunk.kind label o (word_change f g first size ps k word o change) in
+      let l = fill_listed ps (walk size g (Some first)) o.front o.back cs o.chunk k o.chunk.offset o.chunk.kind label shown chain.numbered o.was d.1 in
+      (d.0, record { chunk = o.chunk; at = l.at; is = l.is })
 
   pub released : (f1 f2 f3 : ℕ → Option Node) (k start : ℕ) → HasChunkId cs k → ((n : Node) → f k ≡ Some n → start ≡ (n.chunk).start)
-      → ChangesAt k (used_node start Free []) f f1 → JoinsRight k f1 f2 → JoinsLeft k f2 f3
+      → ChangesAt k (used_node start Free no_label) f f1 → JoinsRight k f1 f2 → JoinsLeft k f2 f3
       → IsChain f3 first size (walk size f3 (Some first)) × IsReleased cs k (chunks_in (walk size f3 (Some first)))
   released f1 f2 f3 k start has ends change right left =
       let o = open_at k has in
-      let d = release_done f f1 first size ps k start [] o ends change f2 right f3 left in
+      let d = release_done f f1 first size ps k start no_label o ends change f2 right f3 left in
       (d.0, release_listed ps (walk size f3 (Some first)) o.front o.back cs o.chunk k shown chain.numbered o.was d.1)
 
 -- a number that no chunk has: nothing is met
@@ -284,7 +296,7 @@ module _ (f : ℕ → Option Node) (first size : ℕ) (ps : List (ℕ × Chunk))
   starts_at : (k : ℕ) (a : Neighbours) → option_map (around_of f) (f k) ≡ Some a → (n : Node) → f k ≡ Some n → a.here.start ≡ (n.chunk).start
   starts_at k a e n at = ap (λ (x : Neighbours). x.here.start) (sym (same_Some (around_of f n) a (sym (ap (option_map (around_of f)) at) ∙ e)))
 
-  module _ (k : ℕ) (was : Neighbours) (e : option_map (around_of f) (f k) ≡ Some was) (f1 : ℕ → Option Node) (change : ChangesAt k (used_node was.here.start Free []) f f1) where
+  module _ (k : ℕ) (was : Neighbours) (e : option_map (around_of f) (f k) ≡ Some was) (f1 : ℕ → Option Node) (change : ChangesAt k (used_node was.here.start Free no_label) f f1) where
     has : HasChunkId cs k
     has = let m = stands_beside k was e in (m.chunk, m.at)
 
@@ -292,11 +304,11 @@ module _ (f : ℕ → Option Node) (first size : ℕ) (ps : List (ℕ × Chunk))
     o = open_at f first size ps cs chain shown k has
 
     pub right_linked : size < 2 ^ 64 → LinkedAt f1 k
-    right_linked fits = right_ready f f1 first size ps k was.here.start [] o (starts_at k was e) change fits
+    right_linked fits = right_ready f f1 first size ps k was.here.start no_label o (starts_at k was e) change fits
 
     module _ (f2 : ℕ → Option Node) (right : JoinsRight k f1 f2) where
       pub left_linked : size < 2 ^ 64 → LinkedAt f2 k
-      left_linked fits = left_ready f f1 first size ps k was.here.start [] o (starts_at k was e) change f2 right fits
+      left_linked fits = left_ready f f1 first size ps k was.here.start no_label o (starts_at k was e) change f2 right fits
 
       module _ (f3 : ℕ → Option Node) (left : JoinsLeft k f2 f3) where
         pub chain_left : IsChain f3 first size (walk size f3 (Some first))
@@ -307,7 +319,7 @@ module _ (f : ℕ → Option Node) (first size : ℕ) (ps : List (ℕ × Chunk))
             let m = stands_beside k was e in
             let at = stands_of ps o.front o.back cs k o.chunk o.was shown chain.numbered in
             let s = stands_once cs at.front at.back o.chunk m.chunk k (distinct_listed f first size ps cs chain shown) m.at at.split at.numbered in
-            under_done f f1 first size ps k was.here.start [] o (starts_at k was e) change f2 right j under
+            under_done f f1 first size ps k was.here.start no_label o (starts_at k was e) change f2 right j under
             ∙ ap (λ (xs : List Chunk). first_of (last_beside None xs) k) s.fronts
             ∙ ap (λ (b : Option Neighbour). first_of b k) (sym m.before)
 

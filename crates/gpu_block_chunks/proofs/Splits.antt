@@ -6,9 +6,10 @@ use Rattle.std.proofs.lemmas.Bool.{cases_eq}
 use Rattle.gpu_block_chunks.specs.declared.chunk.Chunk.{Chunk}
 use Rattle.gpu_block_chunks.specs.Chain.{Node}
 use Rattle.gpu_values.specs.declared.allocation_type.AllocationType.{AllocationType}
+use Rattle.gpu_block_chunks.specs.declared.label.Label.{Label}
 use Rattle.gpu_block_chunks.specs.Chain.{with_next, cut_node, is_at, ChangesAt, ChangesAtOpt, SetsAt}
 use Rattle.gpu_block_chunks.specs.ChunkList.{Covers, cut_chunk}
-use Rattle.gpu_block_chunks.specs.Chain.{first_or, last_or, node_of, Held, Apart, Distinct, Numbered, Among, IsChain, front_piece, Name, first_after, walk, chunks_in}
+use Rattle.gpu_block_chunks.specs.Chain.{first_or, last_or, node_of, Held, Apart, Distinct, Numbered, Among, IsChain, front_piece, first_after, walk, chunks_in}
 use Rattle.gpu_block_chunks.proofs.Links.{held_among, held_within, chain_walk, walk_chain, stands_from, same_test, apart_test, apart_append, apart_front, held_front, held_back, held_join}
 
 -- no chunk of the list has that number, if it is one
@@ -86,9 +87,9 @@ among_cases q d (x ∷ xs) ys (inl h) = inl (inl h)
 among_cases q d (x ∷ xs) ys (inr h) = ⊎_elim (λ (l : Among q d xs). inl (inr l)) (λ (r : Among q d ys). inr r) (among_cases q d xs ys h)
 
 -- ---- the list after a split
-module _ (chunk_id : ℕ) (k : ℕ) (c : Chunk) (taken offset : ℕ) (kind : AllocationType) (name : Name) (back : List (ℕ × Chunk)) where
+module _ (chunk_id : ℕ) (k : ℕ) (c : Chunk) (taken offset : ℕ) (kind : AllocationType) (label : Label) (back : List (ℕ × Chunk)) where
   abbrev piece : Chunk
-  piece = front_piece c taken offset kind chunk_id name
+  piece = front_piece c taken offset kind chunk_id label
 
   abbrev rest : Chunk
   rest = cut_chunk c taken
@@ -182,29 +183,29 @@ last_not_among : (k : ℕ) (xs : List (ℕ × Chunk)) → Apart k xs → last_or
 last_not_among k [] h e = cc
 last_not_among k (x ∷ xs) h e = last_is_not k x.0 xs h.1 h.0 e
 
-pub relinks : (f f1 f2 f3 : ℕ → Option Node) (chunk_id k taken offset : ℕ) (kind : AllocationType) (name : Name) (front back : List (ℕ × Chunk)) (n : Node)
+pub relinks : (f f1 f2 f3 : ℕ → Option Node) (chunk_id k taken offset : ℕ) (kind : AllocationType) (label : Label) (front back : List (ℕ × Chunk)) (n : Node)
     → f k ≡ Some n → n.prev ≡ last_or None front → n.next ≡ first_or back None → Apart k front → Apart chunk_id front → (chunk_id ≡ k → ⊥)
-    → SetsAt chunk_id (Some (node_of (front_piece n.chunk taken offset kind chunk_id name) n.prev (Some k))) f f1
+    → SetsAt chunk_id (Some (node_of (front_piece n.chunk taken offset kind chunk_id label) n.prev (Some k))) f f1
     → ChangesAt k (cut_node taken (Some chunk_id)) f1 f2
     → ChangesAtOpt n.prev (with_next (Some chunk_id)) f2 f3
-    → IsRelinked chunk_id k n.chunk taken offset kind name back f f3 front
-relinks f f1 f2 f3 chunk_id k taken offset kind name front back n at prev next kf nf ne c1 c2 c3 =
+    → IsRelinked chunk_id k n.chunk taken offset kind label back f f3 front
+relinks f f1 f2 f3 chunk_id k taken offset kind label front back n at prev next kf nf ne c1 c2 c3 =
     let new_not : n.prev ≡ Some chunk_id → ⊥ = λ (e : n.prev ≡ Some chunk_id). last_not_among chunk_id front nf (sym prev ∙ e) in
     let old_not : n.prev ≡ Some k → ⊥ = λ (e : n.prev ≡ Some k). last_not_among k front kf (sym prev ∙ e) in
     let other_two : (q : ℕ) → (k ≡ q → ⊥) → (chunk_id ≡ q → ⊥) → f2 q ≡ f q = λ q nk nn.
     c2 q ∙ ap (λ (b : Bool). cond b (option_map (cut_node taken (Some chunk_id)) (f1 q)) (f1 q)) (apart_test k q nk)
-    ∙ c1 q ∙ ap (λ (b : Bool). cond b (Some (node_of (front_piece n.chunk taken offset kind chunk_id name) n.prev (Some k))) (f q)) (apart_test chunk_id q nn) in
+    ∙ c1 q ∙ ap (λ (b : Bool). cond b (Some (node_of (front_piece n.chunk taken offset kind chunk_id label) n.prev (Some k))) (f q)) (apart_test chunk_id q nn) in
     record {
       at_new = c3 chunk_id
           ∙ ap (λ (b : Bool). cond b (option_map (with_next (Some chunk_id)) (f2 chunk_id)) (f2 chunk_id)) (at_opt_other n.prev chunk_id new_not)
           ∙ c2 chunk_id ∙ ap (λ (b : Bool). cond b (option_map (cut_node taken (Some chunk_id)) (f1 chunk_id)) (f1 chunk_id)) (apart_test k chunk_id (λ (e : k ≡ chunk_id). ne (sym e)))
-          ∙ c1 chunk_id ∙ ap (λ (b : Bool). cond b (Some (node_of (front_piece n.chunk taken offset kind chunk_id name) n.prev (Some k))) (f chunk_id)) (same_test chunk_id)
-          ∙ ap (λ (o : Option ℕ). Some (node_of (front_piece n.chunk taken offset kind chunk_id name) o (Some k))) prev;
+          ∙ c1 chunk_id ∙ ap (λ (b : Bool). cond b (Some (node_of (front_piece n.chunk taken offset kind chunk_id label) n.prev (Some k))) (f chunk_id)) (same_test chunk_id)
+          ∙ ap (λ (o : Option ℕ). Some (node_of (front_piece n.chunk taken offset kind chunk_id label) o (Some k))) prev;
       at_old = c3 k
           ∙ ap (λ (b : Bool). cond b (option_map (with_next (Some chunk_id)) (f2 k)) (f2 k)) (at_opt_other n.prev k old_not)
           ∙ c2 k ∙ ap (λ (b : Bool). cond b (option_map (cut_node taken (Some chunk_id)) (f1 k)) (f1 k)) (same_test k)
           ∙ ap (λ (o : Option Node). option_map (cut_node taken (Some chunk_id)) o) (c1 k
-          ∙ ap (λ (b : Bool). cond b (Some (node_of (front_piece n.chunk taken offset kind chunk_id name) n.prev (Some k))) (f k)) (apart_test chunk_id k ne) ∙ at)
+          ∙ ap (λ (b : Bool). cond b (Some (node_of (front_piece n.chunk taken offset kind chunk_id label) n.prev (Some k))) (f k)) (apart_test chunk_id k ne) ∙ at)
           ∙ ap (λ (o : Option ℕ). Some (node_of (cut_chunk n.chunk taken) (Some chunk_id) o)) next;
       at_last = λ q m e fq nk nn. c3 q
           ∙ ap (λ (b : Bool). cond b (option_map (with_next (Some chunk_id)) (f2 q)) (f2 q)) (at_opt_same n.prev q (prev ∙ e))
@@ -227,12 +228,12 @@ first_split [] k chunk_id first c d back more h = refl
 first_split (x ∷ xs) k chunk_id first c d back more h = h ∙ ap (λ (j : ℕ). Some j) (sym (first_kept x.0 xs chunk_id first))
 
 -- the list, split there
-pub record IsCut (old : List (ℕ × Chunk)) (k taken chunk_id offset : ℕ) (kind : AllocationType) (name : Name) (new : List (ℕ × Chunk)) : Type 0 where
+pub record IsCut (old : List (ℕ × Chunk)) (k taken chunk_id offset : ℕ) (kind : AllocationType) (label : Label) (new : List (ℕ × Chunk)) : Type 0 where
   pub front : List (ℕ × Chunk)
   pub chunk : Chunk
   pub back : List (ℕ × Chunk)
   pub was : old ≡ front ++ (k, chunk) ∷ back
-  pub is : new ≡ front ++ (chunk_id, front_piece chunk taken offset kind chunk_id name) ∷ (k, cut_chunk chunk taken) ∷ back
+  pub is : new ≡ front ++ (chunk_id, front_piece chunk taken offset kind chunk_id label) ∷ (k, cut_chunk chunk taken) ∷ back
 
 -- a chunk of that number is longer than `taken`
 pub record CanSplit (cs : List (ℕ × Chunk)) (k taken : ℕ) : Type 0 where
@@ -240,18 +241,18 @@ pub record CanSplit (cs : List (ℕ × Chunk)) (k taken : ℕ) : Type 0 where
   pub among : Among k chunk cs
   pub longer : taken < chunk.size
 
-pub record SplitDone (g : ℕ → Option Node) (first size : ℕ) (cs : List (ℕ × Chunk)) (k taken chunk_id offset : ℕ) (kind : AllocationType) (name : Name) : Type 0 where
+pub record SplitDone (g : ℕ → Option Node) (first size : ℕ) (cs : List (ℕ × Chunk)) (k taken chunk_id offset : ℕ) (kind : AllocationType) (label : Label) : Type 0 where
   pub list : List (ℕ × Chunk)
-  pub split : IsCut cs k taken chunk_id offset kind name list
+  pub split : IsCut cs k taken chunk_id offset kind label list
   pub chain : IsChain g first size list
 
-pub split_chain : (f f1 f2 f3 : ℕ → Option Node) (first size : ℕ) (cs : List (ℕ × Chunk)) (chunk_id k taken offset : ℕ) (kind : AllocationType) (name : Name) (n : Node)
+pub split_chain : (f f1 f2 f3 : ℕ → Option Node) (first size : ℕ) (cs : List (ℕ × Chunk)) (chunk_id k taken offset : ℕ) (kind : AllocationType) (label : Label) (n : Node)
     → IsChain f first size cs → f k ≡ Some n → 0 < taken → taken < (n.chunk).size → Apart chunk_id cs
-    → SetsAt chunk_id (Some (node_of (front_piece n.chunk taken offset kind chunk_id name) n.prev (Some k))) f f1
+    → SetsAt chunk_id (Some (node_of (front_piece n.chunk taken offset kind chunk_id label) n.prev (Some k))) f f1
     → ChangesAt k (cut_node taken (Some chunk_id)) f1 f2
     → ChangesAtOpt n.prev (with_next (Some chunk_id)) f2 f3
-    → SplitDone f3 (first_after n.prev chunk_id first) size cs k taken chunk_id offset kind name
-split_chain f f1 f2 f3 first size cs chunk_id k taken offset kind name n chain at pos short fresh_cs c1 c2 c3 =
+    → SplitDone f3 (first_after n.prev chunk_id first) size cs k taken chunk_id offset kind label
+split_chain f f1 f2 f3 first size cs chunk_id k taken offset kind label n chain at pos short fresh_cs c1 c2 c3 =
     let s = stands_from k n.chunk cs (chain.every k n at) in
     let held = subst (λ (ys : List (ℕ × Chunk)). Held f None ys None) s.is chain.held in
     let distinct = subst (λ (ys : List (ℕ × Chunk)). Distinct ys) s.is chain.distinct in
@@ -264,20 +265,20 @@ split_chain f f1 f2 f3 first size cs chunk_id k taken offset kind name n chain a
     let prev : n.prev ≡ last_or None s.front = cc in
     let next : n.next ≡ first_or s.back None = cc in
     let nf = apart_append chunk_id s.front ((k, n.chunk) ∷ s.back) fresh in
-    let r = relinks f f1 f2 f3 chunk_id k taken offset kind name s.front s.back n at prev next (apart_front s.front k n.chunk s.back distinct) nf.0 nf.1.0 c1 c2 c3 in
+    let r = relinks f f1 f2 f3 chunk_id k taken offset kind label s.front s.back n at prev next (apart_front s.front k n.chunk s.back distinct) nf.0 nf.1.0 c1 c2 c3 in
     record {
-      list = split_list chunk_id k n.chunk taken offset kind name s.back s.front;
+      list = split_list chunk_id k n.chunk taken offset kind label s.back s.front;
       split = record { front = s.front; chunk = n.chunk; back = s.back; was = s.is; is = refl };
       chain = record {
-        held = held_split chunk_id k n.chunk taken offset kind name s.back f f3 s.front r held distinct fresh;
+        held = held_split chunk_id k n.chunk taken offset kind label s.back f f3 s.front r held distinct fresh;
         starts =
-            first_split s.front k chunk_id first n.chunk (front_piece n.chunk taken offset kind chunk_id name) s.back ((k, cut_chunk n.chunk taken) ∷ s.back)
+            first_split s.front k chunk_id first n.chunk (front_piece n.chunk taken offset kind chunk_id label) s.back ((k, cut_chunk n.chunk taken) ∷ s.back)
             (ap (λ (ys : List (ℕ × Chunk)). first_or ys None) (sym s.is) ∙ chain.starts)
             ∙ ap (λ (o : Option ℕ). Some (first_after o chunk_id first)) (sym prev);
-        covers = covers_split chunk_id k n.chunk taken offset kind name s.back s.front 0 size pos short covers;
-        distinct = distinct_split chunk_id k n.chunk taken offset kind name s.back s.front fresh distinct;
-        numbered = numbered_split chunk_id k n.chunk taken offset kind name s.back s.front numbered;
-        every = every_split chunk_id k n.chunk taken offset kind name s.back f f3 s.front r every;
+        covers = covers_split chunk_id k n.chunk taken offset kind label s.back s.front 0 size pos short covers;
+        distinct = distinct_split chunk_id k n.chunk taken offset kind label s.back s.front fresh distinct;
+        numbered = numbered_split chunk_id k n.chunk taken offset kind label s.back s.front numbered;
+        every = every_split chunk_id k n.chunk taken offset kind label s.back f f3 s.front r every;
       };
     }
 
@@ -310,26 +311,26 @@ still_held f f1 f2 k m change n c1 c2 None h = h
 still_held f f1 f2 k m change n c1 c2 (Some p) h =
     subst (λ (o : Option Node). IsSome o) (sym (c2 p)) (some_changed (k == p) change (f1 p) (subst (λ (o : Option Node). IsSome o) (sym (c1 p)) (some_set (m == p) n (f p) h)))
 
-pub split_chain_at : (f f1 f2 f3 : ℕ → Option Node) (first size : ℕ) (cs ds : List (ℕ × Chunk)) (chunk_id k taken offset : ℕ) (kind : AllocationType) (name : Name) (start : ℕ) (prev : Option ℕ)
+pub split_chain_at : (f f1 f2 f3 : ℕ → Option Node) (first size : ℕ) (cs ds : List (ℕ × Chunk)) (chunk_id k taken offset : ℕ) (kind : AllocationType) (label : Label) (start : ℕ) (prev : Option ℕ)
     → IsChain f first size cs → cs ≡ ds → CanSplit ds k taken → 0 < taken → Apart chunk_id ds
     → ((n : Node) → f k ≡ Some n → (start ≡ (n.chunk).start) × (prev ≡ n.prev))
-    → SetsAt chunk_id (Some (node_of (record { start = start; size = taken; offset = offset; kind = kind; chunk_id = chunk_id; name = name }) prev (Some k))) f f1
+    → SetsAt chunk_id (Some (node_of (record { start = start; size = taken; offset = offset; kind = kind; chunk_id = chunk_id; label = label }) prev (Some k))) f f1
     → ChangesAt k (cut_node taken (Some chunk_id)) f1 f2
     → ChangesAtOpt prev (with_next (Some chunk_id)) f2 f3
-    → SplitDone f3 (first_after prev chunk_id first) size ds k taken chunk_id offset kind name
-split_chain_at f f1 f2 f3 first size cs ds chunk_id k taken offset kind name start prev chain_cs same can pos fresh ends c1 c2 c3 =
+    → SplitDone f3 (first_after prev chunk_id first) size ds k taken chunk_id offset kind label
+split_chain_at f f1 f2 f3 first size cs ds chunk_id k taken offset kind label start prev chain_cs same can pos fresh ends c1 c2 c3 =
     let chain = subst (λ (ys : List (ℕ × Chunk)). IsChain f first size ys) same chain_cs in
     let r = split_ready f first size ds chain k taken can in
     let e = ends r.0 r.1 in
-    let d2 = subst (λ (s : ℕ). SetsAt chunk_id (Some (node_of (record { start = s; size = taken; offset = offset; kind = kind; chunk_id = chunk_id; name = name }) prev (Some k))) f f1) e.0 c1 in
-    let e2 = subst (λ (p : Option ℕ). SetsAt chunk_id (Some (node_of (front_piece (r.0).chunk taken offset kind chunk_id name) p (Some k))) f f1) e.1 d2 in
+    let d2 = subst (λ (s : ℕ). SetsAt chunk_id (Some (node_of (record { start = s; size = taken; offset = offset; kind = kind; chunk_id = chunk_id; label = label }) prev (Some k))) f f1) e.0 c1 in
+    let e2 = subst (λ (p : Option ℕ). SetsAt chunk_id (Some (node_of (front_piece (r.0).chunk taken offset kind chunk_id label) p (Some k))) f f1) e.1 d2 in
     let e3 = subst (λ (p : Option ℕ). ChangesAtOpt p (with_next (Some chunk_id)) f2 f3) e.1 c3 in
-    subst (λ (p : Option ℕ). SplitDone f3 (first_after p chunk_id first) size ds k taken chunk_id offset kind name) (sym e.1)
-    (split_chain f f1 f2 f3 first size ds chunk_id k taken offset kind name r.0 chain r.1 pos r.2 fresh e2 c2 e3)
+    subst (λ (p : Option ℕ). SplitDone f3 (first_after p chunk_id first) size ds k taken chunk_id offset kind label) (sym e.1)
+    (split_chain f f1 f2 f3 first size ds chunk_id k taken offset kind label r.0 chain r.1 pos r.2 fresh e2 c2 e3)
 
-pub split_walk : (g : ℕ → Option Node) (first size : ℕ) (cs : List (ℕ × Chunk)) (k taken chunk_id offset : ℕ) (kind : AllocationType) (name : Name)
-    → SplitDone g first size cs k taken chunk_id offset kind name → IsChain g first size (walk size g (Some first)) × IsCut cs k taken chunk_id offset kind name (walk size g (Some first))
-split_walk g first size cs k taken chunk_id offset kind name done = (
+pub split_walk : (g : ℕ → Option Node) (first size : ℕ) (cs : List (ℕ × Chunk)) (k taken chunk_id offset : ℕ) (kind : AllocationType) (label : Label)
+    → SplitDone g first size cs k taken chunk_id offset kind label → IsChain g first size (walk size g (Some first)) × IsCut cs k taken chunk_id offset kind label (walk size g (Some first))
+split_walk g first size cs k taken chunk_id offset kind label done = (
   walk_chain g first size done.list done.chain,
-  subst (λ (ys : List (ℕ × Chunk)). IsCut cs k taken chunk_id offset kind name ys) (sym (chain_walk g first size done.list done.chain)) done.split,
+  subst (λ (ys : List (ℕ × Chunk)). IsCut cs k taken chunk_id offset kind label ys) (sym (chain_walk g first size done.list done.chain)) done.split,
 )

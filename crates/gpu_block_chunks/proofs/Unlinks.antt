@@ -1,5 +1,5 @@
 -- A chunk that is freed and longer with its neighbours.
-use Rattle.std.proofs.Common.{◌≡◌, ℕ, ◌+◌, ◌<◌, ◌^◌, List, [], ◌∷◌, ◌++◌, Option, Some, None, IsSome, refl, sym, ap, ◌∙◌, subst, inl, inr, ⊎_elim, arith, rules, cond, Bool, true, false}
+use Rattle.std.proofs.Common.{◌≡◌, ℕ, ◌+◌, ◌<◌, ◌^◌, List, [], ◌∷◌, ◌++◌, Option, Some, None, IsSome, refl, sym, ap, ◌∙◌, subst, inl, inr, ⊎_elim, arith, rules, cond, Bool, true, false, ◌==◌}
 use Rattle.std.specs.Option.{option_map}
 use Rattle.std.proofs.lemmas.Bool.{cases_eq}
 use Rattle.std.proofs.lemmas.List.{append_assoc}
@@ -8,10 +8,11 @@ use Rattle.gpu_block_chunks.specs.declared.chain.Neighbour.{Neighbour}
 use Rattle.gpu_block_chunks.specs.Chain.{Node}
 use Rattle.gpu_values.specs.declared.allocation_type.AllocationType.{AllocationType}
 use Rattle.gpu_values.specs.declared.allocation_type.AllocationType.TheVariants.{Free, Linear, NonLinear}
-use Rattle.gpu_block_chunks.specs.Chain.{used_node, ChangesAt, SetsAt}
+use Rattle.gpu_block_chunks.specs.declared.label.Label.{Label}
+use Rattle.gpu_block_chunks.specs.Chain.{used_node, worded_node, ChangesAt, SetsAt}
 use Rattle.gpu_block_chunks.specs.ChunkList.{Covers, filled_chunk}
 use Rattle.gpu_block_chunks.specs.Chain.{first_or, last_or, node_of, Apart, Distinct, Numbered, Among, LinkedAt, IsChain, CanJoin, JoinsNext, JoinsRight, JoinsLeft, longer, is_free_kind}
-use Rattle.gpu_block_chunks.specs.Chain.{right_chunk, right_rest, glue_left, Name, walk, chunks_in, JoinsUnder, beside, last_beside, first_by, first_of}
+use Rattle.gpu_block_chunks.specs.Chain.{right_chunk, right_rest, glue_left, walk, chunks_in, JoinsUnder, beside, last_beside, first_by, first_of}
 use Rattle.gpu_block_chunks.proofs.Links.{stands_from, same_test, apart_test, numbered_at, apart_front, held_front, held_back, held_join, walk_chain, chain_walk}
 use Rattle.gpu_block_chunks.proofs.Splits.{Same, distinct_back, opt_none, same_from, held_same, among_front, among_back, among_cases}
 
@@ -180,9 +181,9 @@ module _ (f : ℕ → Option Node) (k : ℕ) (prev : Option ℕ) (ends : (n : No
     under_free yes_ = subst (λ (v : Bool). JoinsUnder k f (cond v p k)) yes_ under_is
 
 -- ---- another use
-module _ (f g : ℕ → Option Node) (k offset : ℕ) (kind : AllocationType) (name : Name) (change : ChangesAt k (used_node offset kind name) f g) where
+module _ (f g : ℕ → Option Node) (k offset : ℕ) (kind : AllocationType) (label : Label) (change : ChangesAt k (used_node offset kind label) f g) where
   use_others : (q : ℕ) → (k ≡ q → ⊥) → g q ≡ f q
-  use_others q ne = change q ∙ ap (λ (b : Bool). cond b (option_map (used_node offset kind name) (f q)) (f q)) (apart_test k q ne)
+  use_others q ne = change q ∙ ap (λ (b : Bool). cond b (option_map (used_node offset kind label) (f q)) (f q)) (apart_test k q ne)
 
   use_same : (xs : List (ℕ × Chunk)) → Apart k xs → Same f g xs
   use_same xs apart = same_from f g None k k (λ q no_last ne ne2. use_others q ne) xs (opt_none xs) apart apart
@@ -192,7 +193,7 @@ module _ (f g : ℕ → Option Node) (k offset : ℕ) (kind : AllocationType) (n
   use_starts (x ∷ xs) c d back = refl
 
   use_covers : (front : List (ℕ × Chunk)) (c : Chunk) (back : List (ℕ × Chunk)) (from to : ℕ) → Covers (chunks_in (front ++ (k, c) ∷ back)) from to
-      → Covers (chunks_in (front ++ (k, filled_chunk c offset kind name) ∷ back)) from to
+      → Covers (chunks_in (front ++ (k, filled_chunk c offset kind label) ∷ back)) from to
   use_covers [] c back from to h = h
   use_covers (x ∷ xs) c back from to h = (h.0, h.1, use_covers xs c back (from + (x.1).size) to h.2)
 
@@ -204,37 +205,37 @@ module _ (f g : ℕ → Option Node) (k offset : ℕ) (kind : AllocationType) (n
   use_distinct [] c d back h = h
   use_distinct (x ∷ xs) c d back h = (use_apart x.0 xs c d back h.0, use_distinct xs c d back h.1)
 
-  use_numbered : (front : List (ℕ × Chunk)) (c : Chunk) (back : List (ℕ × Chunk)) → Numbered (front ++ (k, c) ∷ back) → Numbered (front ++ (k, filled_chunk c offset kind name) ∷ back)
+  use_numbered : (front : List (ℕ × Chunk)) (c : Chunk) (back : List (ℕ × Chunk)) → Numbered (front ++ (k, c) ∷ back) → Numbered (front ++ (k, filled_chunk c offset kind label) ∷ back)
   use_numbered [] c back h = h
   use_numbered (x ∷ xs) c back h = (h.0, use_numbered xs c back h.1)
 
   pub linked_use : (first size : ℕ) (front : List (ℕ × Chunk)) (c : Chunk) (back : List (ℕ × Chunk)) → IsChain f first size (front ++ (k, c) ∷ back)
-      → IsChain g first size (front ++ (k, filled_chunk c offset kind name) ∷ back)
+      → IsChain g first size (front ++ (k, filled_chunk c offset kind label) ∷ back)
   linked_use first size front c back l =
       let hf = held_front f None front ((k, c) ∷ back) None l.held in
       let hb = held_back f None front ((k, c) ∷ back) None l.held in
       let kf = apart_front front k c back l.distinct in
       let kb = (distinct_back front ((k, c) ∷ back) l.distinct).0 in
-      let at : g k ≡ Some (node_of (filled_chunk c offset kind name) (last_or None front) (first_or back None)) =
-      change k ∙ ap (λ (b : Bool). cond b (option_map (used_node offset kind name) (f k)) (f k)) (same_test k) ∙ ap (λ (o : Option Node). option_map (used_node offset kind name) o) hb.0 in
+      let at : g k ≡ Some (node_of (filled_chunk c offset kind label) (last_or None front) (first_or back None)) =
+      change k ∙ ap (λ (b : Bool). cond b (option_map (used_node offset kind label) (f k)) (f k)) (same_test k) ∙ ap (λ (o : Option Node). option_map (used_node offset kind label) o) hb.0 in
       record {
         held =
-            held_join g None front ((k, filled_chunk c offset kind name) ∷ back) None (held_same f g None front (Some k) (use_same front kf) hf)
+            held_join g None front ((k, filled_chunk c offset kind label) ∷ back) None (held_same f g None front (Some k) (use_same front kf) hf)
             (at, held_same f g (Some k) back None (use_same back kb) hb.1);
-        starts = use_starts front c (filled_chunk c offset kind name) back ∙ l.starts;
+        starts = use_starts front c (filled_chunk c offset kind label) back ∙ l.starts;
         covers = use_covers front c back 0 size l.covers;
-        distinct = use_distinct front c (filled_chunk c offset kind name) back l.distinct;
+        distinct = use_distinct front c (filled_chunk c offset kind label) back l.distinct;
         numbered = use_numbered front c back l.numbered;
         every = λ q n e. ⊎_elim
             (λ (is_k : k ≡ q).
-            let s : Some n ≡ Some (node_of (filled_chunk c offset kind name) (last_or None front) (first_or back None)) = sym e ∙ ap g (sym is_k) ∙ at in
-            let w : n ≡ node_of (filled_chunk c offset kind name) (last_or None front) (first_or back None) = cc in
-            among_back q n.chunk front ((k, filled_chunk c offset kind name) ∷ back) (inl (is_k, ap (λ (m : Node). m.chunk) (sym w))))
+            let s : Some n ≡ Some (node_of (filled_chunk c offset kind label) (last_or None front) (first_or back None)) = sym e ∙ ap g (sym is_k) ∙ at in
+            let w : n ≡ node_of (filled_chunk c offset kind label) (last_or None front) (first_or back None) = cc in
+            among_back q n.chunk front ((k, filled_chunk c offset kind label) ∷ back) (inl (is_k, ap (λ (m : Node). m.chunk) (sym w))))
             (λ (not_k : k ≡ q → ⊥). ⊎_elim
-            (λ (fr : Among q n.chunk front). among_front q n.chunk front ((k, filled_chunk c offset kind name) ∷ back) fr)
+            (λ (fr : Among q n.chunk front). among_front q n.chunk front ((k, filled_chunk c offset kind label) ∷ back) fr)
             (λ (bk : Among q n.chunk ((k, c) ∷ back)). ⊎_elim
             (λ (it : (k ≡ q) × (c ≡ n.chunk)). absurd (not_k it.0))
-            (λ (last : Among q n.chunk back). among_back q n.chunk front ((k, filled_chunk c offset kind name) ∷ back) (inr last))
+            (λ (last : Among q n.chunk back). among_back q n.chunk front ((k, filled_chunk c offset kind label) ∷ back) (inr last))
             bk)
             (among_cases q n.chunk front ((k, c) ∷ back) (l.every q n (sym (use_others q not_k) ∙ e))))
             (cases_eq k q);
@@ -263,17 +264,31 @@ pub opened_has : (f : ℕ → Option Node) (first size : ℕ) (ds : List (ℕ ×
 opened_has f first size ds k o = subst (λ (x : Option Node). IsSome x) (sym (at_is f k first size o.front o.chunk o.back o.linked)) (search rules)
 
 -- the list after another use
-pub fill_done : (f g : ℕ → Option Node) (first size : ℕ) (ds : List (ℕ × Chunk)) (k offset : ℕ) (kind : AllocationType) (name : Name) → (o : Opened f first size ds k)
-    → ChangesAt k (used_node offset kind name) f g
-    → IsChain g first size (walk size g (Some first)) × (walk size g (Some first) ≡ o.front ++ (k, filled_chunk o.chunk offset kind name) ∷ o.back)
-fill_done f g first size ds k offset kind name o change =
-    let c = linked_use f g k offset kind name change first size o.front o.chunk o.back o.linked in
-    (walk_chain g first size (o.front ++ (k, filled_chunk o.chunk offset kind name) ∷ o.back) c, chain_walk g first size (o.front ++ (k, filled_chunk o.chunk offset kind name) ∷ o.back) c)
+pub fill_done : (f g : ℕ → Option Node) (first size : ℕ) (ds : List (ℕ × Chunk)) (k offset : ℕ) (kind : AllocationType) (label : Label) → (o : Opened f first size ds k)
+    → ChangesAt k (used_node offset kind label) f g
+    → IsChain g first size (walk size g (Some first)) × (walk size g (Some first) ≡ o.front ++ (k, filled_chunk o.chunk offset kind label) ∷ o.back)
+fill_done f g first size ds k offset kind label o change =
+    let c = linked_use f g k offset kind label change first size o.front o.chunk o.back o.linked in
+    (walk_chain g first size (o.front ++ (k, filled_chunk o.chunk offset kind label) ∷ o.back) c, chain_walk g first size (o.front ++ (k, filled_chunk o.chunk offset kind label) ∷ o.back) c)
 
-abbrev pub freed : Chunk → Name → Chunk
+-- another word is another use with the same offset, kind and name
+pub word_change : (f g : ℕ → Option Node) (first size : ℕ) (ds : List (ℕ × Chunk)) (k word : ℕ) (o : Opened f first size ds k) → ChangesAt k (worded_node word) f g
+    → ChangesAt k (used_node o.chunk.offset o.chunk.kind (record o.chunk.label { word = word })) f g
+word_change f g first size ds k word o change q =
+    let other = used_node o.chunk.offset o.chunk.kind (record o.chunk.label { word = word }) in
+    ⊎_elim
+    (λ (is : k ≡ q).
+    let at : f q ≡ Some (node_of o.chunk (last_or None o.front) (first_or o.back None)) = ap f (sym is) ∙ at_is f k first size o.front o.chunk o.back o.linked in
+    change q ∙ ap (λ (y : Option Node). cond (k == q) y (f q)) (ap (option_map (worded_node word)) at ∙ sym (ap (option_map other) at)))
+    (λ (ne : k ≡ q → ⊥).
+    change q ∙ ap (λ (b : Bool). cond b (option_map (worded_node word) (f q)) (f q)) (apart_test k q ne)
+    ∙ sym (ap (λ (b : Bool). cond b (option_map other (f q)) (f q)) (apart_test k q ne)))
+    (cases_eq k q)
+
+abbrev pub freed : Chunk → Label → Chunk
 freed c empty = filled_chunk c c.start Free empty
 
-module _ (f f1 : ℕ → Option Node) (first size : ℕ) (ds : List (ℕ × Chunk)) (k start : ℕ) (empty : Name) (o : Opened f first size ds k)
+module _ (f f1 : ℕ → Option Node) (first size : ℕ) (ds : List (ℕ × Chunk)) (k start : ℕ) (empty : Label) (o : Opened f first size ds k)
     (ends : (n : Node) → f k ≡ Some n → start ≡ (n.chunk).start) (change : ChangesAt k (used_node start Free empty) f f1) where
   released_first : IsChain f1 first size (o.front ++ (k, freed o.chunk empty) ∷ o.back)
   released_first =

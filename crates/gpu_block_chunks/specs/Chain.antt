@@ -4,14 +4,12 @@ use Rattle.std.specs.Borrow.{Bor}
 use Rattle.std.specs.Option.{option_map}
 use Rattle.gpu_values.specs.declared.allocation_type.AllocationType.{AllocationType}
 use Rattle.gpu_values.specs.declared.allocation_type.AllocationType.TheVariants.{Free, Linear, NonLinear}
+use Rattle.gpu_block_chunks.specs.declared.label.Label.{Label}
+use Rattle.gpu_block_chunks.specs.Label.{no_label, with_word}
 use Rattle.gpu_block_chunks.specs.declared.chunk.Chunk.{Chunk}
 use Rattle.gpu_block_chunks.specs.declared.chain.Neighbour.{Neighbour}
 use Rattle.gpu_block_chunks.specs.declared.chain.Neighbours.{Neighbours}
-use Rattle.gpu_block_chunks.specs.ChunkList.{IsFree, Covers, cut_chunk, filled_chunk, join_back, join_front}
-
--- the bytes of a name
-abbrev pub Name : Type 0
-Name = List ℕ
+use Rattle.gpu_block_chunks.specs.ChunkList.{IsFree, Covers, cut_chunk, filled_chunk, labelled_chunk, join_back, join_front}
 
 -- what a contract sees of a chain: its chunks in order, the block's size, and for how many more chunks it has room
 pub record Linked : Type 0 where
@@ -82,30 +80,36 @@ pub record IsLonger (cs : List Chunk) (chunk_id taken : ℕ) : Type 0 where
 
 -- a block that is one free chunk, with number 1
 abbrev pub IsFresh : List Chunk → ℕ → Type 0
-IsFresh cs size = (name : Name) × (cs ≡ record { start = 0; size = size; offset = 0; kind = Free; chunk_id = 1; name = name } ∷ [])
+IsFresh cs size = (label : Label) × (cs ≡ record { start = 0; size = size; offset = 0; kind = Free; chunk_id = 1; label = label } ∷ [])
 
--- a piece of that size, offset, kind, number and name at the front of a chunk
-abbrev pub front_piece : Chunk → (taken offset : ℕ) → AllocationType → ℕ → Name → Chunk
-front_piece c taken offset kind chunk_id name =
-    record { start = c.start; size = taken; offset = offset; kind = kind; chunk_id = chunk_id; name = name }
+-- a piece of that size, offset, kind, number and label at the front of a chunk
+abbrev pub front_piece : Chunk → (taken offset : ℕ) → AllocationType → ℕ → Label → Chunk
+front_piece c taken offset kind chunk_id label =
+    record { start = c.start; size = taken; offset = offset; kind = kind; chunk_id = chunk_id; label = label }
 
 -- the chunk of number k gave its front to a piece
-pub record IsSplit (old : List Chunk) (k taken chunk_id offset : ℕ) (kind : AllocationType) (name : Name) (new : List Chunk) : Type 0 where
+pub record IsSplit (old : List Chunk) (k taken chunk_id offset : ℕ) (kind : AllocationType) (label : Label) (new : List Chunk) : Type 0 where
   pub chunk : Chunk
   pub at : StandsAt old k chunk
-  pub is : new ≡ at.front ++ front_piece chunk taken offset kind chunk_id name ∷ cut_chunk chunk taken ∷ at.back
+  pub is : new ≡ at.front ++ front_piece chunk taken offset kind chunk_id label ∷ cut_chunk chunk taken ∷ at.back
 
 -- the chunk of number k is in another use
-pub record IsFilled (old : List Chunk) (k offset : ℕ) (kind : AllocationType) (name : Name) (new : List Chunk) : Type 0 where
+pub record IsFilled (old : List Chunk) (k offset : ℕ) (kind : AllocationType) (label : Label) (new : List Chunk) : Type 0 where
   pub chunk : Chunk
   pub at : StandsAt old k chunk
-  pub is : new ≡ at.front ++ filled_chunk chunk offset kind name ∷ at.back
+  pub is : new ≡ at.front ++ filled_chunk chunk offset kind label ∷ at.back
+
+-- the chunk of number k has another word
+pub record IsWorded (old : List Chunk) (k word : ℕ) (new : List Chunk) : Type 0 where
+  pub chunk : Chunk
+  pub at : StandsAt old k chunk
+  pub is : new ≡ at.front ++ labelled_chunk (with_word word) chunk ∷ at.back
 
 -- the chunk of number k is free, and one with the free chunks beside it
 pub record IsReleased (old : List Chunk) (k : ℕ) (new : List Chunk) : Type 0 where
   pub chunk : Chunk
   pub at : StandsAt old k chunk
-  pub is : new ≡ join_front at.front (join_back (filled_chunk chunk chunk.start Free []) at.back)
+  pub is : new ≡ join_front at.front (join_back (filled_chunk chunk chunk.start Free no_label) at.back)
 
 -- the number of the free chunk that a chunk becomes part of: that of the free one before it, if there is one
 abbrev pub first_by : AllocationType → ℕ → ℕ → ℕ
@@ -311,8 +315,11 @@ is_at (Some k) q = k == q
 abbrev pub ChangesAtOpt : Option ℕ → (Node → Node) → (ℕ → Option Node) → (ℕ → Option Node) → Type 0
 ChangesAtOpt o change f g = (q : ℕ) → g q ≡ cond (is_at o q) (option_map change (f q)) (f q)
 
-abbrev pub used_node : ℕ → AllocationType → Name → Node → Node
-used_node offset kind name n = record { chunk = filled_chunk n.chunk offset kind name; prev = n.prev; next = n.next }
+abbrev pub used_node : ℕ → AllocationType → Label → Node → Node
+used_node offset kind label n = record { chunk = filled_chunk n.chunk offset kind label; prev = n.prev; next = n.next }
+
+abbrev pub worded_node : ℕ → Node → Node
+worded_node word n = record { chunk = labelled_chunk (with_word word) n.chunk; prev = n.prev; next = n.next }
 
 -- no node is held under that number, or linked to it
 pub record IsUnlinked (k : ℕ) (f : ℕ → Option Node) : Type 0 where

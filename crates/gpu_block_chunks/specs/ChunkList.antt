@@ -2,12 +2,13 @@
 use Rattle.std.specs.Prelude.{◌≡◌, ◌≢◌, ℕ, ◌+◌, ◌-◌, ◌<◌, List, [], ◌∷◌, All}
 use Rattle.gpu_values.specs.declared.allocation_type.AllocationType.{AllocationType}
 use Rattle.gpu_values.specs.declared.allocation_type.AllocationType.TheVariants.{Free, Linear, NonLinear}
+use Rattle.gpu_block_chunks.specs.declared.label.Label.{Label}
 use Rattle.gpu_block_chunks.specs.declared.chunk.Chunk.{Chunk}
 use Rattle.gpu_block_chunks.specs.declared.chunk.ChunkView.{ChunkView}
 
 -- the chunk that a view shows
 abbrev pub chunk_of : ChunkView → Chunk
-chunk_of v = record { start = v.start; size = v.size; offset = v.offset; kind = v.kind; chunk_id = v.chunk_id; name = (v.name).now }
+chunk_of v = record { start = v.start; size = v.size; offset = v.offset; kind = v.kind; chunk_id = v.chunk_id; label = (v.label).now }
 
 abbrev pub IsFree : AllocationType → Type 0
 IsFree Free = Unit {0}
@@ -28,8 +29,12 @@ AreDistinct (c ∷ cs) = All (λ d. d.chunk_id ≢ c.chunk_id) cs × AreDistinct
 abbrev pub cut_chunk : Chunk → ℕ → Chunk
 cut_chunk c taken = record c { start = c.start + taken; size = c.size - taken; offset = c.start + taken }
 
-abbrev pub filled_chunk : Chunk → ℕ → AllocationType → List ℕ → Chunk
-filled_chunk c offset kind name = record c { offset = offset; kind = kind; name = name }
+abbrev pub filled_chunk : Chunk → ℕ → AllocationType → Label → Chunk
+filled_chunk c offset kind label = record c { offset = offset; kind = kind; label = label }
+
+-- the same chunk with a changed label
+abbrev pub labelled_chunk : (Label → Label) → Chunk → Chunk
+labelled_chunk change c = record c { label = change c.label }
 
 -- two chunks as one
 abbrev pub joined_chunk : Chunk → Chunk → Chunk

@@ -1,3 +1,4 @@
+pub mod Label
 pub mod Name
 pub mod ChunkList
 pub mod Chain

@@ -2,10 +2,12 @@
 use Rattle.std.specs.Prelude.{◌≡◌, ◌≢◌, ℕ, ◌+◌, ◌<◌, ◌⊎◌, List, length, Option, None, is_some, count_by, slice_index_or, slice_set}
 use Rattle.std.specs.Option.{option_map}
 use Rattle.gpu_values.specs.declared.allocation_type.AllocationType.{AllocationType}
+use Rattle.gpu_block_chunks.specs.declared.label.Label.{Label}
+use Rattle.gpu_block_chunks.specs.Label.{with_word}
 use Rattle.gpu_block_chunks.specs.declared.chain.link.LinkedChunk.{LinkedChunk}
 use Rattle.gpu_block_chunks.specs.declared.chain.link.LinkedView.{LinkedView}
 use Rattle.gpu_block_chunks.specs.Chain.{longer}
-use Rattle.gpu_block_chunks.specs.ChunkList.{chunk_of, cut_chunk, filled_chunk}
+use Rattle.gpu_block_chunks.specs.ChunkList.{chunk_of, cut_chunk, filled_chunk, labelled_chunk}
 
 -- the chunk or nothing in each slot, and how many more chunks fit without taking memory
 pub record Stored : Type 0 where
@@ -35,7 +37,7 @@ IsFirst old new slot =
     ((slot < length old.slots) × (length new.slots ≡ length old.slots))
     ⊎ ((slot ≡ length old.slots) × (taken old ≡ length old.slots) × (length new.slots ≡ length old.slots + 1))
 
--- ---- the chunk that a view shows, and a chunk with other links, without its front, longer, or in another use
+-- ---- the chunk that a view shows, and a chunk with other links, without its front, longer, in another use, or with another word
 
 abbrev pub linked_of : LinkedView → LinkedChunk
 linked_of v = record { prev = v.prev; chunk = chunk_of v.chunk; next = v.next }
@@ -52,5 +54,8 @@ cut_linked taken prev n = record n { prev = prev; chunk = cut_chunk n.chunk take
 abbrev pub joined_linked : ℕ → Option ℕ → LinkedChunk → LinkedChunk
 joined_linked more next n = record n { next = next; chunk = longer n.chunk more }
 
-abbrev pub used_linked : ℕ → AllocationType → List ℕ → LinkedChunk → LinkedChunk
-used_linked offset kind name n = record n { chunk = filled_chunk n.chunk offset kind name }
+abbrev pub used_linked : ℕ → AllocationType → Label → LinkedChunk → LinkedChunk
+used_linked offset kind label n = record n { chunk = filled_chunk n.chunk offset kind label }
+
+abbrev pub worded_linked : ℕ → LinkedChunk → LinkedChunk
+worded_linked word n = record n { chunk = labelled_chunk (with_word word) n.chunk }

@@ -6,7 +6,7 @@ ghost use Rattle.gpu_cost.specs.Cost.{LooksUp, LooksUpBetween};
 ghost use Rattle.gpu_block_chunks.specs.Slots.{linked_of};
 ghost use Rattle.gpu_block_chunks.specs.Nodes.{held_at, node_value, link_chunk_id, IsTaken, Reaches};
 ghost use Rattle.gpu_block_chunks.specs.ChunkList.{Covers, AreDistinct, chunk_of};
-ghost use Rattle.gpu_block_chunks.specs.Chain.{HasChunkId, HasNoChunkId, HasNoPiece, ReleasesPiece, IsSplit, IsFilled, from_chunk_id, beside, beside_of, around_of, first_after, IsChunkAt, IsFresh, IsLonger};
+ghost use Rattle.gpu_block_chunks.specs.Chain.{HasChunkId, HasNoChunkId, HasNoPiece, ReleasesPiece, IsSplit, IsFilled, IsWorded, from_chunk_id, beside, beside_of, around_of, first_after, IsChunkAt, IsFresh, IsLonger};
 
 mod chunk_ids;
 mod link;
@@ -16,16 +16,18 @@ mod slot_link;
 mod slots;
 
 use crate::chunk::{ChunkView, is_free};
-use crate::name::{Name, NewName};
+use crate::label::{Label, NewLabel};
 use gpu_cost::Cost;
 use gpu_values::AllocationType;
 use link::{Link, LinkedChunk, LinkedView, chunk_id_of};
-use node::{cut_front, ends_of, join_left, join_right, link_at, linked_at, set_next_of, set_use};
+use node::{
+    cut_front, ends_of, join_left, join_right, link_at, linked_at, set_next_of, set_use, set_word,
+};
 use nodes::Nodes;
 use std::alloc::{AllocError, Global};
 use std::marker::Model;
 
-/// A chunk without its name.
+/// A chunk without its label.
 #[derive(Clone, Copy)]
 pub struct Neighbour {
     pub start: u64,
@@ -140,7 +142,7 @@ impl Chain {
             kind: AllocationType::Free,
             chunk_id: 1,
         };
-        nodes.put(1, LinkedChunk::new(here, 0, NewName::empty(), None, None));
+        nodes.put(1, LinkedChunk::new(here, 0, NewLabel::empty(), None, None));
         Ok(Chain {
             nodes,
             first: 1,
@@ -206,14 +208,14 @@ impl Chain {
         taken: u64,
         offset: u64,
         kind: AllocationType,
-        name: NewName<'_>,
+        label: NewLabel<'_>,
         cost: &mut Cost,
     )
         requires longer { IsLonger self.old.chunks chunk_id taken }
         requires positive { 0 < taken }
         requires fresh { HasNoChunkId self.old.chunks new }
         requires room { 0 < self.old.room }
-        ensures chunks { IsSplit self.old.chunks chunk_id taken new offset kind name.entry
+        ensures chunks { IsSplit self.old.chunks chunk_id taken new offset kind label.entry
             self.new.chunks }
         ensures size { self.new.size ≡ self.old.size }
         ensures counted { LooksUpBetween 3 4 cost.old cost.new }
@@ -232,29 +234,42 @@ impl Chain {
         cost.look_up();
         let piece = self.nodes.put(
             new,
-            LinkedChunk::new(here, offset, name, ends.prev, Some(rest.slot)),
+            LinkedChunk::new(here, offset, label, ends.prev, Some(rest.slot)),
         );
         cut_front(&mut self.nodes, rest, taken, Some(piece), cost);
         set_next_of(&mut self.nodes, prev, Some(piece), cost);
         self.first = first_of(chunk_id_of(prev), new, self.first);
     }
 
-    /// Gives a chunk another offset, kind and name. It takes no memory.
+    /// Gives a chunk another offset, kind and label. It takes no memory.
     pub fn fill(
         &mut self,
         chunk_id: u64,
         offset: u64,
         kind: AllocationType,
-        name: NewName<'_>,
+        label: NewLabel<'_>,
         cost: &mut Cost,
     )
         requires there { HasChunkId self.old.chunks chunk_id }
-        ensures chunks { IsFilled self.old.chunks chunk_id offset kind name.entry self.new.chunks }
+        ensures chunks { IsFilled self.old.chunks chunk_id offset kind label.entry self.new.chunks }
         ensures size { self.new.size ≡ self.old.size }
         ensures counted { LooksUp 1 cost.old cost.new }
     {
         let at = self.nodes.link_to(chunk_id);
-        set_use(&mut self.nodes, at, offset, kind, Name::of(name), cost);
+        set_use(&mut self.nodes, at, offset, kind, Label::of(label), cost);
+        // a read, so that the proof has the invariant
+        let _size = self.size;
+    }
+
+    /// Gives the chunk of that number another word. It takes no memory.
+    pub fn set_word(&mut self, chunk_id: u64, word: u64, cost: &mut Cost)
+        requires there { HasChunkId self.old.chunks chunk_id }
+        ensures chunks { IsWorded self.old.chunks chunk_id word self.new.chunks }
+        ensures size { self.new.size ≡ self.old.size }
+        ensures counted { LooksUp 1 cost.old cost.new }
+    {
+        let at = self.nodes.link_to(chunk_id);
+        set_word(&mut self.nodes, at, word, cost);
         // a read, so that the proof has the invariant
         let _size = self.size;
     }
@@ -286,7 +301,7 @@ impl Chain {
             at,
             was.here.start,
             AllocationType::Free,
-            Name::empty(),
+            Label::empty(),
             cost,
         );
         join_right(&mut self.nodes, at, cost);

@@ -2,7 +2,7 @@
 
 ghost use Rattle.std.specs.Prelude.{◌≡◌, IsTrue, ◌↔◌};
 
-use crate::name::{Name, NewName};
+use crate::label::{Label, NewLabel};
 use gpu_values::AllocationType;
 use std::marker::Model;
 
@@ -15,10 +15,10 @@ pub struct Chunk {
     pub chunk_id: u64,
     /// Where the piece begins: what lies before it in the chunk is padding.
     pub offset: u64,
-    pub name: Name,
+    pub label: Label,
 }
 
-/// A chunk that is to be put into a slot, with its name made ready.
+/// A chunk that is to be put into a slot, with its label made ready.
 #[derive(Drop)]
 pub struct NewChunk<'a> {
     pub start: u64,
@@ -27,7 +27,7 @@ pub struct NewChunk<'a> {
     pub chunk_id: u64,
     /// Where the piece begins: what lies before it in the chunk is padding.
     pub offset: u64,
-    pub name: NewName<'a>,
+    pub label: NewLabel<'a>,
 }
 
 impl<'a> Model for NewChunk<'a> {
@@ -41,11 +41,11 @@ impl<'a> Model for NewChunk<'a> {
       kind = c.kind;
       chunk_id = c.chunk_id;
       offset = c.offset;
-      name = c.name;
+      label = c.label;
     } };
 }
 
-/// What is read of a chunk: its numbers, and its name lent.
+/// What is read of a chunk: its numbers, and its label lent.
 #[derive(Clone, Copy)]
 pub struct ChunkView<'a> {
     pub start: u64,
@@ -54,7 +54,7 @@ pub struct ChunkView<'a> {
     pub chunk_id: u64,
     /// Where the piece begins: what lies before it in the chunk is padding.
     pub offset: u64,
-    pub name: &'a Name,
+    pub label: &'a Label,
 }
 
 ghost use Rattle.gpu_block_chunks.specs.ChunkList.{IsFree, chunk_of};
@@ -71,7 +71,7 @@ impl Chunk {
             kind: self.kind,
             chunk_id: self.chunk_id,
             offset: self.offset,
-            name: &self.name,
+            label: &self.label,
         }
     }
 }

@@ -3,10 +3,12 @@
 
 mod chain;
 mod chunk;
+mod label;
 mod name;
 mod walk;
 
 pub use chain::{Chain, Neighbour, Neighbours};
 pub use chunk::{Chunk, ChunkView, is_free};
+pub use label::{Label, NewLabel};
 pub use name::{Name, NewName};
 pub use walk::Walk;

@@ -6,7 +6,7 @@ use std::alloc::{AllocError, Global};
 use std::marker::Model;
 
 /// A name of at most so many bytes lies in the slot.
-const SHORT: usize = 30;
+const SHORT: usize = 22;
 
 /// A short name: the first bytes of an array.
 #[derive(Drop)]
@@ -22,7 +22,7 @@ impl Model for Short {
 
     ghost view = { λ s. take s.length s.bytes };
 
-    ghost invariant = { λ s. (s.length ≤ 30) × IsUtf8 (take s.length s.bytes) };
+    ghost invariant = { λ s. (s.length ≤ 22) × IsUtf8 (take s.length s.bytes) };
 }
 
 impl Short {
@@ -39,7 +39,7 @@ impl Short {
     /// Copies another text into it.
     #[inline(always)]
     fn set(&mut self, text: &str)
-        requires { length text.now ≤ 30 }
+        requires { length text.now ≤ 22 }
         ensures { self.new ≡ text.now }
     {
         let length = text.len();
@@ -57,13 +57,14 @@ impl Short {
     }
 }
 
+// A longer text is boxed, so that a name takes 24 bytes and a label 32.
 #[derive(Drop)]
 enum Text {
     Short(Short),
-    Long(String),
+    Long(Box<String>),
 }
 
-/// The name of a piece. One of at most thirty bytes takes no memory.
+/// The name of a piece. One of at most 22 bytes takes no memory.
 #[derive(Drop)]
 pub struct Name {
     text: Text,
@@ -88,10 +89,10 @@ impl Name {
         }
     }
 
-    /// A name with that text. Only one of more than thirty bytes can be refused.
+    /// A name with that text. Only one of more than 22 bytes can be refused.
     pub fn new(alloc: Global, name: &str) -> Result<Name, AllocError>
         ensures text { IfOk result (λ n. n ≡ name.now) }
-        ensures short { length name.now ≤ 30 → IsOk result }
+        ensures short { length name.now ≤ 22 → IsOk result }
     {
         Ok(Name::of(NewName::new(alloc, name)?))
     }
@@ -119,7 +120,7 @@ impl Name {
     /// Copies a short text into it.
     #[inline(always)]
     fn copy(&mut self, text: &str)
-        requires { length text.now ≤ 30 }
+        requires { length text.now ≤ 22 }
         ensures { self.new ≡ text.now }
     {
         match &mut self.text {
@@ -146,7 +147,7 @@ impl Name {
 #[derive(Drop)]
 enum NewText<'a> {
     Short(&'a str),
-    Long(String),
+    Long(Box<String>),
 }
 
 /// A name that is ready to be put where it is to lie: a short one is copied there, and the memory of a longer one has been taken.
@@ -176,16 +177,16 @@ impl<'a> NewName<'a> {
         }
     }
 
-    /// A name with that text. Only one of more than thirty bytes takes memory, and can be refused.
+    /// A name with that text. Only one of more than 22 bytes takes memory, and can be refused.
     #[inline(always)]
     pub fn new(alloc: Global, name: &'a str) -> Result<NewName<'a>, AllocError>
         ensures text { IfOk result (λ n. n ≡ name.now) }
-        ensures short { length name.now ≤ 30 → IsOk result }
+        ensures short { length name.now ≤ 22 → IsOk result }
     {
         let text = if name.len() <= SHORT {
             NewText::Short(name)
         } else {
-            NewText::Long(String::from_str(alloc, name)?)
+            NewText::Long(Box::new(alloc, String::from_str(alloc, name)?)?)
         };
         Ok(NewName { text })
     }

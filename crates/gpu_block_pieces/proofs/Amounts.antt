@@ -1,17 +1,19 @@
--- The bytes of a block's pieces, padding included, and what a take, a release and a new name make of them.
+-- The bytes of a block's pieces, padding included, and what a take, a release and a changed label make of them.
 use Rattle.std.proofs.Common.{◌≡◌, ◌≢◌, ℕ, ◌+◌, ◌-◌, ◌≤◌, List, [], ◌∷◌, ◌++◌, refl, sym, ap, ◌∙◌, subst, inl, inr, arith}
 use Rattle.std.proofs.lemmas.List.Sums.{sum_by-append, sum_by-cons}
 use Rattle.gpu_block_chunks.specs.declared.chunk.Chunk.{Chunk}
 use Rattle.gpu_values.specs.declared.allocation_type.AllocationType.{AllocationType}
 use Rattle.gpu_values.specs.declared.allocation_type.AllocationType.TheVariants.{Free, Linear, NonLinear}
-use Rattle.gpu_block_chunks.specs.ChunkList.{IsFree, Covers, AreDistinct, cut_chunk, filled_chunk, join_back, join_front}
+use Rattle.gpu_block_chunks.specs.ChunkList.{IsFree, Covers, AreDistinct, cut_chunk, filled_chunk, labelled_chunk, join_back, join_front}
 use Rattle.gpu_block_chunks.proofs.Listing.{stands_once}
 use Rattle.gpu_block_pieces.specs.FreeList.{Extent, extent_bytes}
 use Rattle.gpu_block_gaps.specs.declared.index.Gap.{Gap}
 use Rattle.std.proofs.lemmas.Bool.{cases_lt}
+use Rattle.gpu_block_chunks.specs.declared.label.Label.{Label}
+use Rattle.gpu_block_chunks.specs.Label.{no_label}
 use Rattle.gpu_block_pieces.specs.declared.place.Wanted.{Wanted}
 use Rattle.gpu_block_pieces.specs.declared.search.Found.{Found}
-use Rattle.gpu_block_pieces.specs.Chunks.{HoldsChunkId, IsNamedAt, IsTaken, extent, extents_of, named_chunk, piece_of}
+use Rattle.gpu_block_pieces.specs.Chunks.{HoldsChunkId, IsLabelledAt, IsTaken, extent, extents_of, piece_of}
 use Rattle.gpu_block_pieces.specs.Indexed.{IsFreed, IsChosen, chosen_at}
 use Rattle.gpu_block_pieces.proofs.Tiling.{around}
 use Rattle.gpu_block_pieces.proofs.Edits.{join_kinds-free, join_kinds-live}
@@ -99,7 +101,7 @@ released_bytes cs ds n bytes w p =
     let at = p.at in
     let r = p.released in
     let s = stands_once cs at.front at.back p.chunk r.chunk n w r.at at.split at.numbered in
-    let gap = filled_chunk r.chunk r.chunk.start Free [] in
+    let gap = filled_chunk r.chunk r.chunk.start Free no_label in
     let j = joined gap r.at.back tt in
     let live : IsFree r.chunk.kind → ⊥ = λ f. p.live (subst (λ (x : Chunk). IsFree x.kind) (sym s.chunks) f) in
     let size : bytes ≡ r.chunk.size = p.bytes_is ∙ ap (λ (x : Chunk). x.size) s.chunks in
@@ -115,9 +117,9 @@ not_free Free ne f = ne refl
 not_free Linear ne f = f
 not_free NonLinear ne f = f
 
-pub taken_bytes : (cs ds : List Chunk) (w : Wanted) (f : Found) (counter chunk_id : ℕ) (name : List ℕ) → (h : IsChosen cs w f) → w.kind ≢ Free → IsTaken cs (chosen_at cs w f h) w counter name chunk_id ds
+pub taken_bytes : (cs ds : List Chunk) (w : Wanted) (f : Found) (counter chunk_id : ℕ) (label : Label) → (h : IsChosen cs w f) → w.kind ≢ Free → IsTaken cs (chosen_at cs w f h) w counter label chunk_id ds
     → bytes_of ds ≡ bytes_of cs + (f.offset + w.size - f.gap.start)
-taken_bytes cs ds w f counter chunk_id name h kind taken =
+taken_bytes cs ds w f counter chunk_id label h kind taken =
     let fits = h.best.fits in
     let c = fits.chunk in
     let from = taken fits.front c fits.back fits.split fits.index in
@@ -127,12 +129,12 @@ taken_bytes cs ds w f counter chunk_id name h kind taken =
     elim (cases_lt (f.offset + w.size) (c.start + c.size)) [
       | inl lt ↦
           let cut = cut_chunk c (f.offset + w.size - c.start) in
-          let piece = piece_of c (chosen_at cs w f h) w counter name in
+          let piece = piece_of c (chosen_at cs w f h) w counter label in
           let new = bytes-mid ds fits.front (cut ∷ fits.back) piece (from.rest lt).1 (not_free w.kind kind) in
           let rest = bytes-free cut fits.back fits.free in
           omega arith
       | inr ge ↦
-          let new = bytes-mid ds fits.front fits.back (filled_chunk c f.offset w.kind name) (from.whole ge).1 (not_free w.kind kind) in
+          let new = bytes-mid ds fits.front fits.back (filled_chunk c f.offset w.kind label) (from.whole ge).1 (not_free w.kind kind) in
           omega arith
     ]
 
@@ -150,8 +152,8 @@ room_for cs size w f h covers =
     let after = fits.between.begins.begins.after in
     omega arith
 
--- ---- a new name
+-- ---- a changed label
 
-pub named_bytes : (cs ds : List Chunk) (chunk_id i : ℕ) (name : List ℕ) → HoldsChunkId cs chunk_id i → IsNamedAt cs i name ds → bytes_of ds ≡ bytes_of cs
-named_bytes cs ds chunk_id i name h named =
-    bytes-mid ds h.front h.back (named_chunk h.chunk name) (named h.front h.chunk h.back h.split h.index) h.live ∙ sym (bytes-mid cs h.front h.back h.chunk h.split h.live)
+pub labelled_bytes : (cs ds : List Chunk) (chunk_id i : ℕ) (change : Label → Label) → HoldsChunkId cs chunk_id i → IsLabelledAt cs i change ds → bytes_of ds ≡ bytes_of cs
+labelled_bytes cs ds chunk_id i change h labelled =
+    bytes-mid ds h.front h.back (labelled_chunk change h.chunk) (labelled h.front h.chunk h.back h.split h.index) h.live ∙ sym (bytes-mid cs h.front h.back h.chunk h.split h.live)

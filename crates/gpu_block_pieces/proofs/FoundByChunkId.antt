@@ -12,10 +12,12 @@ use Rattle.gpu_block_pieces.specs.declared.place.Wanted.{Wanted}
 use Rattle.gpu_block_pieces.specs.declared.search.Found.{Found}
 use Rattle.gpu_values.specs.declared.allocation_type.AllocationType.{AllocationType}
 use Rattle.gpu_values.specs.declared.allocation_type.AllocationType.TheVariants.{Free, Linear, NonLinear}
-use Rattle.gpu_block_chunks.specs.ChunkList.{IsFree, Covers, AreDistinct, join_front, join_back, filled_chunk, cut_chunk}
-use Rattle.gpu_block_pieces.specs.Chunks.{NoneTouch, HoldsChunkId, IsNamedAt, IsReleasedAt, IsTaken, AreChunks, IsChunk, is_gap_by, extents_of, extent, named_chunk}
-use Rattle.gpu_block_chunks.specs.Chain.{Name, StandsAt, HasNoChunkId, IsSplit, IsFilled, HasNoPiece, front_piece}
-use Rattle.gpu_block_pieces.specs.Indexed.{IsListed, IsGapOf, IsChosen, chosen_at, IsFreed, IsPieceOf, gaps_between}
+use Rattle.gpu_block_chunks.specs.declared.label.Label.{Label}
+use Rattle.gpu_block_chunks.specs.Label.{no_label, with_name, with_word}
+use Rattle.gpu_block_chunks.specs.ChunkList.{IsFree, Covers, AreDistinct, join_front, join_back, filled_chunk, labelled_chunk, cut_chunk}
+use Rattle.gpu_block_pieces.specs.Chunks.{NoneTouch, HoldsChunkId, IsLabelledAt, IsReleasedAt, IsTaken, AreChunks, IsChunk, is_gap_by, extents_of, extent}
+use Rattle.gpu_block_chunks.specs.Chain.{StandsAt, HasNoChunkId, IsSplit, IsFilled, IsWorded, HasNoPiece, front_piece}
+use Rattle.gpu_block_pieces.specs.Indexed.{IsListed, IsGapOf, IsChosen, chosen_at, IsFreed, IsPieceAt, IsPieceOf, gaps_between}
 use Rattle.gpu_block_pieces.proofs.Numbers.{one_at}
 use Rattle.gpu_block_pieces.proofs.Placing.{not_rest}
 use Rattle.gpu_block_pieces.proofs.Lists.{same_parts}
@@ -76,47 +78,59 @@ gap_of_chunk cs c n b w at told =
     ∙ (ap (λ (q : Bool). q || (is_gap_by c.kind n c || list_any (λ x. is_gap_by x.kind n x) at.back)) f
     ∙ (ap (λ (q : Bool). is_gap_by c.kind n c || q) l ∙ or_false (is_gap_by c.kind n c)))))
 
--- ---- another name
+-- ---- another label
 
-module _ (cs ds : List Chunk) (k offset : ℕ) (kind : AllocationType) (name : Name) (w : AreDistinct cs) (p : IsPieceOf cs k offset kind) (filled : IsFilled cs k offset kind name ds) where
-  abbrev named : Chunk
-  named = named_chunk p.chunk name
+module _ (cs ds : List Chunk) (k : ℕ) (change : Label → Label) (w : AreDistinct cs) (p : IsPieceAt cs k) (is : ds ≡ p.at.front ++ labelled_chunk change p.chunk ∷ p.at.back) where
+  abbrev labelled : Chunk
+  labelled = labelled_chunk change p.chunk
 
-  pub named_is : ds ≡ p.at.front ++ named ∷ p.at.back
-  named_is =
-      let s = stands_once cs p.at.front p.at.back p.chunk filled.chunk k w filled.at p.at.split p.at.numbered in
-      filled.is ∙ (ap (λ (xs : List Chunk). xs ++ filled_chunk filled.chunk offset kind name ∷ filled.at.back) (sym s.fronts)
-      ∙ (ap (λ (x : Chunk). p.at.front ++ filled_chunk x offset kind name ∷ filled.at.back) (sym s.chunks)
-      ∙ (ap (λ (xs : List Chunk). p.at.front ++ filled_chunk p.chunk offset kind name ∷ xs) (sym s.backs)
-      ∙ (ap (λ (n : ℕ). p.at.front ++ filled_chunk p.chunk n kind name ∷ p.at.back) p.offset_is
-      ∙ ap (λ (q : AllocationType). p.at.front ++ filled_chunk p.chunk p.chunk.offset q name ∷ p.at.back) p.kind_is))))
-
-  pub named_listed : (gs : List Gap) → IsListed cs gs → IsListed ds gs
-  named_listed gs listed =
+  pub labelled_listed : (gs : List Gap) → IsListed cs gs → IsListed ds gs
+  labelled_listed gs listed =
       let t = touching Linear p.at.front p.chunk p.at.back (subst (λ (xs : List Chunk). NoneTouch Linear xs) p.at.split listed.touch) in
       record {
-        touch = subst (λ (xs : List Chunk). NoneTouch Linear xs) (sym named_is) (touch_join Linear p.at.front named p.at.back (record { before = t.before; at = t.at; after = t.after }));
+        touch = subst (λ (xs : List Chunk). NoneTouch Linear xs) (sym is) (touch_join Linear p.at.front labelled p.at.back (record { before = t.before; at = t.at; after = t.after }));
         same = same_to gs (gaps_between Free cs Free) (gaps_between Free ds Free) listed.same
             (ap (λ (xs : List Chunk). gaps_between Free xs Free) p.at.split ∙
-            (gaps_live p.at.front p.chunk p.at.back p.live ∙ sym (ap (λ (xs : List Chunk). gaps_between Free xs Free) named_is ∙ gaps_live p.at.front named p.at.back p.live)));
+            (gaps_live p.at.front p.chunk p.at.back p.live ∙ sym (ap (λ (xs : List Chunk). gaps_between Free xs Free) is ∙ gaps_live p.at.front labelled p.at.back p.live)));
       }
 
-  pub named_live : length (extents_of ds) ≡ length (extents_of cs)
-  named_live =
+  pub labelled_live : length (extents_of ds) ≡ length (extents_of cs)
+  labelled_live =
       let x = ap (λ (xs : List Chunk). length (extents_of xs)) p.at.split in
       let y = ap length (extents-split p.at.front p.at.back p.chunk p.live) in
       let z = length-append (extents_of p.at.front) (extent p.chunk ∷ extents_of p.at.back) in
-      let x' = ap (λ (xs : List Chunk). length (extents_of xs)) named_is in
-      let y' = ap length (extents-split p.at.front p.at.back named p.live) in
-      let z' = length-append (extents_of p.at.front) (extent named ∷ extents_of p.at.back) in
+      let x' = ap (λ (xs : List Chunk). length (extents_of xs)) is in
+      let y' = ap length (extents-split p.at.front p.at.back labelled p.live) in
+      let z' = length-append (extents_of p.at.front) (extent labelled ∷ extents_of p.at.back) in
       omega arith
 
-  pub named_at : (i : ℕ) → HoldsChunkId cs k i → IsNamedAt cs i name ds
-  named_at i h = λ front c back q len.
+  pub labelled_at : (i : ℕ) → HoldsChunkId cs k i → IsLabelledAt cs i change ds
+  labelled_at i h = λ front c back q len.
       let r = same_parts cs front back h.front h.back c h.chunk q h.split (len ∙ sym h.index) in
       let s = stands_once cs front back c p.chunk k w p.at q (ap (λ (x : Chunk). x.chunk_id) r.middle ∙ h.numbered) in
-      named_is ∙ (ap (λ (xs : List Chunk). xs ++ named ∷ p.at.back) (sym s.fronts) ∙
-      (ap (λ (x : Chunk). front ++ named_chunk x name ∷ p.at.back) (sym s.chunks) ∙ ap (λ (xs : List Chunk). front ++ named_chunk c name ∷ xs) (sym s.backs)))
+      is ∙ (ap (λ (xs : List Chunk). xs ++ labelled ∷ p.at.back) (sym s.fronts) ∙
+      (ap (λ (x : Chunk). front ++ labelled_chunk change x ∷ p.at.back) (sym s.chunks) ∙ ap (λ (xs : List Chunk). front ++ labelled_chunk change c ∷ xs) (sym s.backs)))
+
+abbrev pub piece_at : (cs : List Chunk) (k offset : ℕ) (kind : AllocationType) (word : ℕ) → IsPieceOf cs k offset kind word → IsPieceAt cs k
+piece_at cs k offset kind word p = record { chunk = p.chunk; at = p.at; live = p.live }
+
+pub named_is : (cs ds : List Chunk) (k offset : ℕ) (kind : AllocationType) (label : Label) → AreDistinct cs → (p : IsPieceOf cs k offset kind label.word) → IsFilled cs k offset kind label ds
+    → ds ≡ p.at.front ++ labelled_chunk (with_name label.name) p.chunk ∷ p.at.back
+named_is cs ds k offset kind label w p filled =
+    let s = stands_once cs p.at.front p.at.back p.chunk filled.chunk k w filled.at p.at.split p.at.numbered in
+    filled.is ∙ (ap (λ (xs : List Chunk). xs ++ filled_chunk filled.chunk offset kind label ∷ filled.at.back) (sym s.fronts)
+    ∙ (ap (λ (x : Chunk). p.at.front ++ filled_chunk x offset kind label ∷ filled.at.back) (sym s.chunks)
+    ∙ (ap (λ (xs : List Chunk). p.at.front ++ filled_chunk p.chunk offset kind label ∷ xs) (sym s.backs)
+    ∙ (ap (λ (n : ℕ). p.at.front ++ filled_chunk p.chunk n kind label ∷ p.at.back) p.offset_is
+    ∙ (ap (λ (q : AllocationType). p.at.front ++ filled_chunk p.chunk p.chunk.offset q label ∷ p.at.back) p.kind_is
+    ∙ ap (λ (n : ℕ). p.at.front ++ labelled_chunk (λ l. record { name = label.name; word = n }) p.chunk ∷ p.at.back) p.word_is)))))
+
+pub worded_is : (cs ds : List Chunk) (k word : ℕ) → AreDistinct cs → (p : IsPieceAt cs k) → IsWorded cs k word ds → ds ≡ p.at.front ++ labelled_chunk (with_word word) p.chunk ∷ p.at.back
+worded_is cs ds k word w p worded =
+    let s = stands_once cs p.at.front p.at.back p.chunk worded.chunk k w worded.at p.at.split p.at.numbered in
+    worded.is ∙ (ap (λ (xs : List Chunk). xs ++ labelled_chunk (with_word word) worded.chunk ∷ worded.at.back) (sym s.fronts)
+    ∙ (ap (λ (x : Chunk). p.at.front ++ labelled_chunk (with_word word) x ∷ worded.at.back) (sym s.chunks)
+    ∙ ap (λ (xs : List Chunk). p.at.front ++ labelled_chunk (with_word word) p.chunk ∷ xs) (sym s.backs)))
 
 -- ---- the chosen gap
 
@@ -139,7 +153,7 @@ chosen_fits cs w f size covers lt h =
     let i = b.between.inside in
     record { low = omega arith; high = omega arith; ends = omega arith }
 
-module _ (cs ds : List Chunk) (w : Wanted) (f : Found) (counter : ℕ) (name : Name) (distinct : AreDistinct cs) where
+module _ (cs ds : List Chunk) (w : Wanted) (f : Found) (counter : ℕ) (label : Label) (distinct : AreDistinct cs) where
   chunk_id_at : (h : IsChosen cs w f) (front back : List Chunk) (c : Chunk) → cs ≡ front ++ c ∷ back → length front ≡ h.index → (c.chunk_id ≡ f.gap.chunk_id) × (f.gap.start ≡ c.start) ×
       (f.gap.length ≡ c.size)
   chunk_id_at h front back c p len =
@@ -150,31 +164,31 @@ module _ (cs ds : List Chunk) (w : Wanted) (f : Found) (counter : ℕ) (name : N
         ap (λ (x : Gap). x.length) h.gap ∙ ap (λ (x : Chunk). x.size) (sym r.middle),
       )
 
-  pub front_taken : (taken : ℕ) → taken ≡ f.offset + w.size - f.gap.start → taken < f.gap.length → f.gap.start ≤ f.offset → IsSplit cs f.gap.chunk_id taken counter f.offset w.kind name ds →
-      (h : IsChosen cs w f) → IsTaken cs (chosen_at cs w f h) w counter name counter ds
+  pub front_taken : (taken : ℕ) → taken ≡ f.offset + w.size - f.gap.start → taken < f.gap.length → f.gap.start ≤ f.offset → IsSplit cs f.gap.chunk_id taken counter f.offset w.kind label ds →
+      (h : IsChosen cs w f) → IsTaken cs (chosen_at cs w f h) w counter label counter ds
   front_taken taken et lt low split h = λ front c back p len.
       let n = chunk_id_at h front back c p len in
       let s = stands_once cs front back c split.chunk f.gap.chunk_id distinct split.at p n.0 in
       let t : taken ≡ f.offset + w.size - c.start = et ∙ ap (λ (m : ℕ). f.offset + w.size - m) n.1 in
-      let is : ds ≡ front ++ front_piece c taken f.offset w.kind counter name ∷ cut_chunk c taken ∷ back =
-      split.is ∙ (ap (λ (xs : List Chunk). xs ++ front_piece split.chunk taken f.offset w.kind counter name ∷ cut_chunk split.chunk taken ∷ split.at.back) (sym s.fronts)
-      ∙ (ap (λ (x : Chunk). front ++ front_piece x taken f.offset w.kind counter name ∷ cut_chunk x taken ∷ split.at.back) (sym s.chunks)
-      ∙ ap (λ (xs : List Chunk). front ++ front_piece c taken f.offset w.kind counter name ∷ cut_chunk c taken ∷ xs) (sym s.backs))) in
+      let is : ds ≡ front ++ front_piece c taken f.offset w.kind counter label ∷ cut_chunk c taken ∷ back =
+      split.is ∙ (ap (λ (xs : List Chunk). xs ++ front_piece split.chunk taken f.offset w.kind counter label ∷ cut_chunk split.chunk taken ∷ split.at.back) (sym s.fronts)
+      ∙ (ap (λ (x : Chunk). front ++ front_piece x taken f.offset w.kind counter label ∷ cut_chunk x taken ∷ split.at.back) (sym s.chunks)
+      ∙ ap (λ (xs : List Chunk). front ++ front_piece c taken f.offset w.kind counter label ∷ cut_chunk c taken ∷ xs) (sym s.backs))) in
       let e1 = n.1 in let e2 = n.2 in
       record {
-        rest = λ _. (refl, is ∙ ap (λ (m : ℕ). front ++ front_piece c m f.offset w.kind counter name ∷ cut_chunk c m ∷ back) t);
+        rest = λ _. (refl, is ∙ ap (λ (m : ℕ). front ++ front_piece c m f.offset w.kind counter label ∷ cut_chunk c m ∷ back) t);
         whole = λ ge. absurd (omega arith);
       }
 
-  pub whole_taken : f.gap.length ≤ f.offset + w.size - f.gap.start → 0 < f.gap.length → IsFilled cs f.gap.chunk_id f.offset w.kind name ds → (h : IsChosen cs w f) → IsTaken cs (chosen_at cs w f h) w
-      counter name f.gap.chunk_id ds
+  pub whole_taken : f.gap.length ≤ f.offset + w.size - f.gap.start → 0 < f.gap.length → IsFilled cs f.gap.chunk_id f.offset w.kind label ds → (h : IsChosen cs w f) → IsTaken cs (chosen_at cs w f h) w
+      counter label f.gap.chunk_id ds
   whole_taken ge pos filled h = λ front c back p len.
       let n = chunk_id_at h front back c p len in
       let s = stands_once cs front back c filled.chunk f.gap.chunk_id distinct filled.at p n.0 in
-      let is : ds ≡ front ++ filled_chunk c f.offset w.kind name ∷ back =
-      filled.is ∙ (ap (λ (xs : List Chunk). xs ++ filled_chunk filled.chunk f.offset w.kind name ∷ filled.at.back) (sym s.fronts)
-      ∙ (ap (λ (x : Chunk). front ++ filled_chunk x f.offset w.kind name ∷ filled.at.back) (sym s.chunks)
-      ∙ ap (λ (xs : List Chunk). front ++ filled_chunk c f.offset w.kind name ∷ xs) (sym s.backs))) in
+      let is : ds ≡ front ++ filled_chunk c f.offset w.kind label ∷ back =
+      filled.is ∙ (ap (λ (xs : List Chunk). xs ++ filled_chunk filled.chunk f.offset w.kind label ∷ filled.at.back) (sym s.fronts)
+      ∙ (ap (λ (x : Chunk). front ++ filled_chunk x f.offset w.kind label ∷ filled.at.back) (sym s.chunks)
+      ∙ ap (λ (xs : List Chunk). front ++ filled_chunk c f.offset w.kind label ∷ xs) (sym s.backs))) in
       let e1 = n.1 in let e2 = n.2 in
       record {
         rest = λ lt. absurd (omega arith);
@@ -199,9 +213,9 @@ released_there cs ds n bytes w p =
       released = λ front c back q len.
           let m = same_parts cs front back at.front at.back c chunk q at.split len in
           let s = stands_once cs front back c r.chunk n w r.at q (ap (λ (x : Chunk). x.chunk_id) m.middle ∙ at.numbered) in
-          r.is ∙ (ap (λ (xs : List Chunk). join_front xs (join_back (filled_chunk r.chunk r.chunk.start Free []) r.at.back)) (sym s.fronts)
-          ∙ (ap (λ (x : Chunk). join_front front (join_back (filled_chunk x x.start Free []) r.at.back)) (sym s.chunks)
-          ∙ ap (λ (xs : List Chunk). join_front front (join_back (filled_chunk c c.start Free []) xs)) (sym s.backs)));
+          r.is ∙ (ap (λ (xs : List Chunk). join_front xs (join_back (filled_chunk r.chunk r.chunk.start Free no_label) r.at.back)) (sym s.fronts)
+          ∙ (ap (λ (x : Chunk). join_front front (join_back (filled_chunk x x.start Free no_label) r.at.back)) (sym s.chunks)
+          ∙ ap (λ (xs : List Chunk). join_front front (join_back (filled_chunk c c.start Free no_label) xs)) (sym s.backs)));
     }
 
 pub held_at : (cs : List Chunk) (c : Chunk) (n : ℕ) → (IsFree c.kind → ⊥) → (s : StandsAt cs n c) → HoldsChunkId cs n (length s.front)

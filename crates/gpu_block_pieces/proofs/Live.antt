@@ -44,7 +44,7 @@ filter_keeps p (y ∷ ys) =
 -- ---- a take
 
 abbrev pub piece_of : (old : FreeList) (r : Request) (o n : ℕ) (new : FreeList) → Takes old r o n new → Extent
-piece_of old r o n new t = record { start = t.start; offset = o; end = o + r.size; kind = r.kind; chunk_id = n; name = r.name }
+piece_of old r o n new t = record { start = t.start; offset = o; end = o + r.size; kind = r.kind; chunk_id = n; name = r.name; word = 0 }
 
 pub takes_keeps : (old : FreeList) (r : Request) (o n : ℕ) (new : FreeList) → Takes old r o n new → (x : Extent) → Contains old.extents x → Contains new.extents x
 takes_keeps old r o n new t x h =

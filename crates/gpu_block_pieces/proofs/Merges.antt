@@ -9,6 +9,7 @@ use Rattle.gpu_block_chunks.specs.declared.chain.Neighbours.{Neighbours}
 use Rattle.gpu_block_gaps.specs.declared.index.Gap.{Gap}
 use Rattle.gpu_values.specs.declared.allocation_type.AllocationType.{AllocationType}
 use Rattle.gpu_values.specs.declared.allocation_type.AllocationType.TheVariants.{Free, Linear, NonLinear}
+use Rattle.gpu_block_chunks.specs.Label.{no_label}
 use Rattle.gpu_block_chunks.specs.ChunkList.{IsFree, Covers, AreDistinct, filled_chunk, joined_chunk, join_back, join_front}
 use Rattle.gpu_block_pieces.specs.Chunks.{NotBothFree, NoneTouch, last_kind, extents_of, extent}
 use Rattle.gpu_block_chunks.specs.Chain.{AreNeighbours, ReleasesPiece, beside, last_beside, first_beside, first_by, first_of}
@@ -273,7 +274,7 @@ module _ (cs ds : List Chunk) (gs : List Gap) (k : ℕ) (a b : Neighbours) (list
   back = piece.before.at.back
 
   abbrev pub freed : Chunk
-  freed = filled_chunk chunk chunk.start Free []
+  freed = filled_chunk chunk chunk.start Free no_label
 
   live : IsFree chunk.kind → ⊥
   live f = piece.live (subst (λ (b : Neighbour). IsFree b.kind) (sym piece.before.here) f)
@@ -293,8 +294,8 @@ module _ (cs ds : List Chunk) (gs : List Gap) (k : ℕ) (a b : Neighbours) (list
   released_is : ds ≡ join_front front (join_back freed back)
   released_is =
       let s = stands_once cs front back chunk piece.released.chunk k distinct piece.released.at piece.before.at.split piece.before.at.numbered in
-      piece.released.is ∙ (ap (λ (xs : List Chunk). join_front xs (join_back (filled_chunk piece.released.chunk piece.released.chunk.start Free []) piece.released.at.back)) (sym s.fronts)
-      ∙ (ap (λ (x : Chunk). join_front front (join_back (filled_chunk x x.start Free []) piece.released.at.back)) (sym s.chunks)
+      piece.released.is ∙ (ap (λ (xs : List Chunk). join_front xs (join_back (filled_chunk piece.released.chunk piece.released.chunk.start Free no_label) piece.released.at.back)) (sym s.fronts)
+      ∙ (ap (λ (x : Chunk). join_front front (join_back (filled_chunk x x.start Free no_label) piece.released.at.back)) (sym s.chunks)
       ∙ ap (λ (xs : List Chunk). join_front front (join_back freed xs)) (sym s.backs)))
 
   pub gap_split : ds ≡ left.outer ++ gap ∷ right.rest

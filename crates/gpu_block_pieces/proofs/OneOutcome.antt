@@ -46,7 +46,7 @@ takes_once old r o o' n n' new new' once t u =
       offsets = co;
       numbers = hn;
       blocks = same_block new new' (t.same.0 ∙ sym u.same.0) (t.same.1 ∙ sym u.same.1) hc
-          (t.extent ∙ ((λ i. ext (record { start = cs i; offset = co i; end = co i + r.size; kind = r.kind; chunk_id = hn i; name = r.name })) ∙ sym u.extent)) hg;
+          (t.extent ∙ ((λ i. ext (record { start = cs i; offset = co i; end = co i + r.size; kind = r.kind; chunk_id = hn i; name = r.name; word = 0 })) ∙ sym u.extent)) hg;
     } in
     elim (cases_lt (o + r.size) t.end) [
       | inl lt ↦

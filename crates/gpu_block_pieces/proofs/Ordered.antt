@@ -91,7 +91,7 @@ ordered_block cs size g counter are = record {
 -- those of a block that is one gap
 fresh_are : (cs : List Chunk) (size counter : ℕ) → 0 < size → 2 ≤ counter → IsFresh cs size → AreChunks cs size counter
 fresh_are cs size counter some two fresh =
-    let c : Chunk = record { start = 0; size = size; offset = 0; kind = Free; chunk_id = 1; name = fresh.0 } in
+    let c : Chunk = record { start = 0; size = size; offset = 0; kind = Free; chunk_id = 1; label = fresh.0 } in
     let is : IsChunk counter c = record { after = omega arith; before = omega arith; positive = omega arith; given = omega arith } in
     subst (λ (xs : List Chunk). AreChunks xs size counter) (sym fresh.1) (record {
       covers = (refl, some, omega arith);

@@ -20,6 +20,8 @@ use Rattle.gpu_block_pieces.proofs.OneOutcome.{best_has_place}
 use Rattle.gpu_block_pieces.specs.BlockRefusal.{IsAllocateRefusal}
 use Rattle.gpu_values.specs.declared.error.AllocationError.{AllocationError}
 use Rattle.gpu_values.specs.declared.error.AllocationError.TheVariants.{HostOutOfMemory}
+use Rattle.gpu_block_chunks.specs.declared.label.Label.{Label}
+use Rattle.gpu_block_chunks.specs.Label.{plain_label}
 
 piece_live : (k : AllocationType) → k ≢ Free → IsFree k → ⊥
 piece_live Free ne f = ne refl
@@ -32,9 +34,9 @@ are_at cs ds size counter e h = subst (λ (xs : List Chunk). AreChunks xs size c
 pub laid_out : (cs : List Chunk) (size counter : ℕ) → size < 2 ^ 64 → AreChunks cs size counter → IsLaidOut cs
 laid_out cs size counter lt h = (size, lt, h.covers)
 
-module _ (cs new : List Chunk) (size counter : ℕ) (w : Wanted) (f : FoundAt) (name : List ℕ) (chunk_id : ℕ) (are : AreChunks cs size counter) (pos : 0 < w.size) (piece : w.kind ≢ Free)
-    (best : IsBestOf cs w (length cs) f) (taken : IsTaken cs f w counter name chunk_id new) where
-  the_taken : TakenFrom best.fits.front best.fits.chunk best.fits.back f w counter name chunk_id new
+module _ (cs new : List Chunk) (size counter : ℕ) (w : Wanted) (f : FoundAt) (label : Label) (chunk_id : ℕ) (are : AreChunks cs size counter) (pos : 0 < w.size) (piece : w.kind ≢ Free)
+    (best : IsBestOf cs w (length cs) f) (taken : IsTaken cs f w counter label chunk_id new) where
+  the_taken : TakenFrom best.fits.front best.fits.chunk best.fits.back f w counter label chunk_id new
   the_taken = taken best.fits.front best.fits.chunk best.fits.back best.fits.split best.fits.index
 
   parts : AreChunks (best.fits.front ++ best.fits.chunk ∷ best.fits.back) size counter
@@ -50,14 +52,14 @@ module _ (cs new : List Chunk) (size counter : ℕ) (w : Wanted) (f : FoundAt) (
   counted = let g = (each_of counter best.fits.front best.fits.chunk best.fits.back parts.each).at.given in omega arith
 
   -- the extent that the piece shows
-  abbrev pub shown : List ℕ → ℕ → ℕ → Extent
-  shown text end n = record { start = best.fits.chunk.start; offset = f.offset; end = end; kind = w.kind; chunk_id = n; name = text }
+  abbrev pub shown : Label → ℕ → ℕ → Extent
+  shown l end n = record { start = best.fits.chunk.start; offset = f.offset; end = end; kind = w.kind; chunk_id = n; name = l.name; word = l.word }
 
   abbrev rest_piece : Chunk
-  rest_piece = piece_of best.fits.chunk f w counter name
+  rest_piece = piece_of best.fits.chunk f w counter label
 
   abbrev whole_piece : Chunk
-  whole_piece = filled_chunk best.fits.chunk f.offset w.kind name
+  whole_piece = filled_chunk best.fits.chunk f.offset w.kind label
 
   pub some_number : 0 < chunk_id
   some_number =
@@ -78,7 +80,7 @@ module _ (cs new : List Chunk) (size counter : ℕ) (w : Wanted) (f : FoundAt) (
         are_at _ new size (counter + 1) (sym (the_taken.rest rest).1)
         (rest_are size counter best.fits.front best.fits.back best.fits.chunk rest_piece parts best.fits.free (piece_live w.kind piece) refl (omega arith) (omega arith) rest_chunk refl)
 
-    pub rest_takes : (text : List ℕ) → name ≡ text → counter < 2 ^ 64 - 1 → Takes (free_list_of size w.granularity counter cs) (request w.size w.alignment w.kind text) f.offset chunk_id
+    pub rest_takes : (text : List ℕ) → label ≡ plain_label text → counter < 2 ^ 64 - 1 → Takes (free_list_of size w.granularity counter cs) (request w.size w.alignment w.kind text) f.offset chunk_id
         (free_list_of size w.granularity (counter + 1) new)
     rest_takes text e left =
         let l = low in let h = high in
@@ -91,9 +93,9 @@ module _ (cs new : List Chunk) (size counter : ℕ) (w : Wanted) (f : FoundAt) (
           start = fs.chunk.start;
           end = fs.chunk.start + fs.chunk.size;
           chosen = chosen_of_best cs size counter w text are.covers are.none_touch piece f best;
-          extent = ap extents_of t.1 ∙ (xs ∙ (ap (λ ys. with_extent (shown (name) (fs.chunk.start + (f.offset + w.size - fs.chunk.start)) counter) (extents_of ys)) (sym fs.split)
-              ∙ (ap (λ k. with_extent (shown (name) k counter) (extents_of cs)) end ∙
-              (ap (λ k. with_extent (shown k (f.offset + w.size) counter) (extents_of cs)) e ∙ ap (λ k. with_extent (shown text (f.offset + w.size) k) (extents_of cs)) (sym t.0)))));
+          extent = ap extents_of t.1 ∙ (xs ∙ (ap (λ ys. with_extent (shown label (fs.chunk.start + (f.offset + w.size - fs.chunk.start)) counter) (extents_of ys)) (sym fs.split)
+              ∙ (ap (λ k. with_extent (shown label k counter) (extents_of cs)) end ∙
+              (ap (λ k. with_extent (shown k (f.offset + w.size) counter) (extents_of cs)) e ∙ ap (λ k. with_extent (shown (plain_label text) (f.offset + w.size) k) (extents_of cs)) (sym t.0)))));
           rest = λ _. (
             t.0,
             refl,
@@ -117,7 +119,7 @@ module _ (cs new : List Chunk) (size counter : ℕ) (w : Wanted) (f : FoundAt) (
         are_at _ new size counter (sym (the_taken.whole whole).1)
         (whole_are size counter best.fits.front best.fits.back best.fits.chunk whole_piece parts best.fits.free (piece_live w.kind piece) refl refl whole_chunk refl)
 
-    pub whole_takes : (text : List ℕ) → name ≡ text → Takes (free_list_of size w.granularity counter cs) (request w.size w.alignment w.kind text) f.offset chunk_id
+    pub whole_takes : (text : List ℕ) → label ≡ plain_label text → Takes (free_list_of size w.granularity counter cs) (request w.size w.alignment w.kind text) f.offset chunk_id
         (free_list_of size w.granularity counter new)
     whole_takes text e =
         let l = low in let h = high in
@@ -131,9 +133,9 @@ module _ (cs new : List Chunk) (size counter : ℕ) (w : Wanted) (f : FoundAt) (
           start = fs.chunk.start;
           end = fs.chunk.start + fs.chunk.size;
           chosen = chosen_of_best cs size counter w text are.covers are.none_touch piece f best;
-          extent = ap extents_of t.1 ∙ (xs ∙ (ap (λ ys. with_extent (shown (name) (fs.chunk.start + fs.chunk.size) fs.chunk.chunk_id) (extents_of ys)) (sym fs.split)
-              ∙ (ap (λ k. with_extent (shown (name) k fs.chunk.chunk_id) (extents_of cs)) end ∙
-              (ap (λ k. with_extent (shown k (f.offset + w.size) fs.chunk.chunk_id) (extents_of cs)) e ∙ ap (λ k. with_extent (shown text (f.offset + w.size) k) (extents_of cs)) (sym t.0)))));
+          extent = ap extents_of t.1 ∙ (xs ∙ (ap (λ ys. with_extent (shown label (fs.chunk.start + fs.chunk.size) fs.chunk.chunk_id) (extents_of ys)) (sym fs.split)
+              ∙ (ap (λ k. with_extent (shown label k fs.chunk.chunk_id) (extents_of cs)) end ∙
+              (ap (λ k. with_extent (shown k (f.offset + w.size) fs.chunk.chunk_id) (extents_of cs)) e ∙ ap (λ k. with_extent (shown (plain_label text) (f.offset + w.size) k) (extents_of cs)) (sym t.0)))));
           rest = λ q. absurd (omega arith);
           no_rest = λ _. (
             subst (λ k. Contains (gaps_of cs) (fs.chunk.start, k)) (sym t.0) (subst (λ (ys : List Chunk). Contains (gaps_of ys) (fs.chunk.start, fs.chunk.chunk_id)) (sym fs.split) ns),

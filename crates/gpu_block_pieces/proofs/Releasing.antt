@@ -6,6 +6,7 @@ use Rattle.std.proofs.lemmas.List.Elements.{All-nil, All-cons, All-head, All-tai
 use Rattle.gpu_block_chunks.specs.declared.chunk.Chunk.{Chunk}
 use Rattle.gpu_values.specs.declared.allocation_type.AllocationType.{AllocationType}
 use Rattle.gpu_values.specs.declared.allocation_type.AllocationType.TheVariants.{Free, Linear, NonLinear}
+use Rattle.gpu_block_chunks.specs.Label.{no_label}
 use Rattle.gpu_block_pieces.specs.FreeList.{Extent, IsGap, SomeExtent}
 use Rattle.gpu_block_pieces.specs.Changes.{with_gap, without_gap, without_extent, Releases}
 use Rattle.gpu_block_chunks.specs.ChunkList.{IsFree, Covers, filled_chunk, joined_chunk, join_back, join_front, AreDistinct}
@@ -24,7 +25,7 @@ is_free_kind Linear h = absurd h
 is_free_kind NonLinear h = absurd h
 
 abbrev pub freed : Chunk → Chunk
-freed c = filled_chunk c c.start Free []
+freed c = filled_chunk c c.start Free no_label
 
 -- the freed chunk and what stands behind it, after the join
 pub record Behind (counter size : ℕ) (c : Chunk) (back : List Chunk) : Type 0 where

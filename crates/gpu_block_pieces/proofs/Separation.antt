@@ -142,7 +142,7 @@ takes_separated old r o n new pos some sound apart t = λ x y hx hy ne le.
     let gap = f.gap in
     let low = f.between.begins.begins.after in
     let high = f.between.inside in
-    let piece : Extent = record { start = s; offset = o; end = o + r.size; kind = r.kind; chunk_id = n; name = r.name } in
+    let piece : Extent = record { start = s; offset = o; end = o + r.size; kind = r.kind; chunk_id = n; name = r.name; word = 0 } in
     let cx = in_placed (λ z. z.start) piece x old.extents (subst (λ (xs : List Extent). Contains xs x) t.extent hx) in
     let cy = in_placed (λ z. z.start) piece y old.extents (subst (λ (xs : List Extent). Contains xs y) t.extent hy) in
     subst (λ k. page k (x.end - 1) < page k y.offset) (sym t.same.1)

@@ -7,9 +7,10 @@ use Rattle.gpu_block_chunks.specs.declared.chunk.Chunk.{Chunk}
 use Rattle.gpu_block_gaps.specs.declared.index.Gap.{Gap}
 use Rattle.gpu_values.specs.declared.allocation_type.AllocationType.{AllocationType}
 use Rattle.gpu_values.specs.declared.allocation_type.AllocationType.TheVariants.{Free, Linear}
+use Rattle.gpu_block_chunks.specs.declared.label.Label.{Label}
 use Rattle.gpu_block_chunks.specs.ChunkList.{IsFree, Covers, AreDistinct, cut_chunk, filled_chunk}
 use Rattle.gpu_block_pieces.specs.Chunks.{NotBothFree, NoneTouch, last_kind, extents_of, extent}
-use Rattle.gpu_block_chunks.specs.Chain.{Name, HasChunkId, IsLonger, IsSplit, IsFilled, front_piece}
+use Rattle.gpu_block_chunks.specs.Chain.{HasChunkId, IsLonger, IsSplit, IsFilled, front_piece}
 use Rattle.gpu_block_gaps.specs.Index.{Before, HasKeyAt, HasNoKey, IsRemoved, IsInserted}
 use Rattle.gpu_block_pieces.specs.Indexed.{gap_between, kind_or, gaps_between, HasSame, IsListed, IsGapOf}
 use Rattle.gpu_block_pieces.proofs.Views.{extents-free, extents-append, extents-split}
@@ -73,10 +74,10 @@ module _ (cs : List Chunk) (gs : List Gap) (g : Gap) (listed : IsListed cs gs) (
 
   -- ---- its front is taken
 
-  module _ (ds : List Chunk) (taken chunk_id offset : ℕ) (kind : AllocationType) (name : Name) (distinct : AreDistinct cs) (live : kind ≡ Free → ⊥)
-      (split : IsSplit cs g.chunk_id taken chunk_id offset kind name ds) where
+  module _ (ds : List Chunk) (taken chunk_id offset : ℕ) (kind : AllocationType) (label : Label) (distinct : AreDistinct cs) (live : kind ≡ Free → ⊥)
+      (split : IsSplit cs g.chunk_id taken chunk_id offset kind label ds) where
     abbrev piece : Chunk
-    piece = front_piece m.chunk taken offset kind chunk_id name
+    piece = front_piece m.chunk taken offset kind chunk_id label
 
     abbrev rest : Chunk
     rest = cut_chunk m.chunk taken
@@ -87,8 +88,8 @@ module _ (cs : List Chunk) (gs : List Gap) (g : Gap) (listed : IsListed cs gs) (
     front_is : ds ≡ m.front ++ piece ∷ rest ∷ m.back
     front_is =
         let s = stands_once cs m.front m.back m.chunk split.chunk g.chunk_id distinct split.at m.split gap_chunk_id in
-        split.is ∙ (ap (λ (xs : List Chunk). xs ++ front_piece split.chunk taken offset kind chunk_id name ∷ cut_chunk split.chunk taken ∷ split.at.back) (sym s.fronts)
-        ∙ (ap (λ (x : Chunk). m.front ++ front_piece x taken offset kind chunk_id name ∷ cut_chunk x taken ∷ split.at.back) (sym s.chunks)
+        split.is ∙ (ap (λ (xs : List Chunk). xs ++ front_piece split.chunk taken offset kind chunk_id label ∷ cut_chunk split.chunk taken ∷ split.at.back) (sym s.fronts)
+        ∙ (ap (λ (x : Chunk). m.front ++ front_piece x taken offset kind chunk_id label ∷ cut_chunk x taken ∷ split.at.back) (sym s.chunks)
         ∙ ap (λ (xs : List Chunk). m.front ++ piece ∷ rest ∷ xs) (sym s.backs)))
 
     rest_is : gap_between kind rest (kind_or m.back Free) ≡ rest_gap
@@ -130,15 +131,15 @@ module _ (cs : List Chunk) (gs : List Gap) (g : Gap) (listed : IsListed cs gs) (
 
   -- ---- the whole of it is taken
 
-  module _ (ds : List Chunk) (offset : ℕ) (kind : AllocationType) (name : Name) (distinct : AreDistinct cs) (live : kind ≡ Free → ⊥) (filled : IsFilled cs g.chunk_id offset kind name ds) where
+  module _ (ds : List Chunk) (offset : ℕ) (kind : AllocationType) (label : Label) (distinct : AreDistinct cs) (live : kind ≡ Free → ⊥) (filled : IsFilled cs g.chunk_id offset kind label ds) where
     abbrev whole : Chunk
-    whole = filled_chunk m.chunk offset kind name
+    whole = filled_chunk m.chunk offset kind label
 
     whole_is : ds ≡ m.front ++ whole ∷ m.back
     whole_is =
         let s = stands_once cs m.front m.back m.chunk filled.chunk g.chunk_id distinct filled.at m.split gap_chunk_id in
-        filled.is ∙ (ap (λ (xs : List Chunk). xs ++ filled_chunk filled.chunk offset kind name ∷ filled.at.back) (sym s.fronts)
-        ∙ (ap (λ (x : Chunk). m.front ++ filled_chunk x offset kind name ∷ filled.at.back) (sym s.chunks)
+        filled.is ∙ (ap (λ (xs : List Chunk). xs ++ filled_chunk filled.chunk offset kind label ∷ filled.at.back) (sym s.fronts)
+        ∙ (ap (λ (x : Chunk). m.front ++ filled_chunk x offset kind label ∷ filled.at.back) (sym s.chunks)
         ∙ ap (λ (xs : List Chunk). m.front ++ whole ∷ xs) (sym s.backs)))
 
     whole_gaps : gaps_between Free ds Free ≡ low ++ high

@@ -33,7 +33,7 @@ abbrev pub rename_fault : FreeList → ℕ → Refusal
 rename_fault b n =
     internal (if has_gap_chunk_id b n then codes "Attempting to rename a freed allocation." else codes "Attempting to rename chunk that is not in chunk list.") None
 
--- why a new name is refused: the number is missing, or it is no live piece's, or it is one's and the host's memory was refused
+-- why a new name or word is refused: the number is missing, or it is no live piece's, or it is one's and the host's memory was refused, which a word never needs
 abbrev pub IsRenameRefusal : FreeList → Option NonZeroU64 → Refusal → Type 0
 IsRenameRefusal b None refusal = refusal ≡ internal (codes "Chunk ID must be a valid value.") None
 IsRenameRefusal b (Some n) refusal =

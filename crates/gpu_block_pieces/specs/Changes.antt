@@ -1,4 +1,4 @@
--- What a take, a release and a new name leave of a block.
+-- What a take, a release, a new name and a new word leave of a block.
 use Rattle.std.specs.Prelude.{◌≡◌, ℕ, ◌+◌, ◌-◌, ◌^◌, ◌<◌, ◌⊎◌, ◌==◌, not, nat_lt, if◌then◌else◌, List, [], ◌∷◌, map, filter, Contains}
 use Rattle.gpu_block_pieces.specs.FreeList.{Extent, FreeList, SomeExtent, IsGap}
 use Rattle.gpu_block_pieces.specs.Request.{Request}
@@ -30,7 +30,7 @@ pub record Takes (old : FreeList) (r : Request) (offset chunk_id : ℕ) (new : F
   pub start : ℕ
   pub end : ℕ
   pub chosen : IsBestFit old r start end offset
-  pub extent : let x : Extent = record { start = start; offset = offset; end = offset + r.size; kind = r.kind; chunk_id = chunk_id; name = r.name } in new.extents ≡ with_extent x old.extents
+  pub extent : let x : Extent = record { start = start; offset = offset; end = offset + r.size; kind = r.kind; chunk_id = chunk_id; name = r.name; word = 0 } in new.extents ≡ with_extent x old.extents
   pub rest : offset + r.size < end → (chunk_id ≡ old.counter) × (new.counter ≡ old.counter + 1) × (new.gap_chunk_ids ≡ moved_gap start (offset + r.size) old.gap_chunk_ids) × (old.counter < 2 ^ 64 - 1)
   pub no_rest : offset + r.size ≡ end → Contains old.gap_chunk_ids (start, chunk_id) × (new.counter ≡ old.counter) × (new.gap_chunk_ids ≡ without_gap start old.gap_chunk_ids)
   pub same : (new.size ≡ old.size) × (new.granularity ≡ old.granularity)
@@ -45,12 +45,27 @@ pub record Releases (old : FreeList) (chunk_id : ℕ) (new : FreeList) : Type 0 
       (((s : ℕ) → IsGap old s gone.start → ⊥) × (new.gap_chunk_ids ≡ with_gap gone.start chunk_id (without_gap gone.end old.gap_chunk_ids)))
   pub same : (new.size ≡ old.size) × (new.granularity ≡ old.granularity) × (new.counter ≡ old.counter)
 
--- the extent with the name, if it has the number
-abbrev pub with_name : ℕ → List ℕ → Extent → Extent
-with_name chunk_id name x = if x.chunk_id == chunk_id then record x { name = name } else x
+-- what a caller says anew of a piece: its name, or the word that is kept with it
+pub data Said : Type 0 where
+  named : List ℕ → Said
+  worded : ℕ → Said
 
--- the extent of that number has another name
-pub record Renames (old : FreeList) (chunk_id : ℕ) (name : List ℕ) (new : FreeList) : Type 0 where
+abbrev pub relabel : Said → Extent → Extent
+relabel (named name) x = record x { name = name }
+relabel (worded word) x = record x { word = word }
+
+-- the extent with what was said of it, if it has the number
+abbrev pub relabelled : ℕ → Said → Extent → Extent
+relabelled chunk_id said x = if x.chunk_id == chunk_id then relabel said x else x
+
+-- the extent of that number has another name or word
+pub record Relabels (old : FreeList) (chunk_id : ℕ) (said : Said) (new : FreeList) : Type 0 where
   pub held : SomeExtent old (λ x. x.chunk_id ≡ chunk_id)
-  pub extents : new.extents ≡ map (with_name chunk_id name) old.extents
+  pub extents : new.extents ≡ map (relabelled chunk_id said) old.extents
   pub same : (new.size ≡ old.size) × (new.granularity ≡ old.granularity) × (new.counter ≡ old.counter) × (new.gap_chunk_ids ≡ old.gap_chunk_ids)
+
+abbrev pub Renames : FreeList → ℕ → List ℕ → FreeList → Type 0
+Renames old chunk_id name new = Relabels old chunk_id (named name) new
+
+abbrev pub SetsWord : FreeList → ℕ → ℕ → FreeList → Type 0
+SetsWord old chunk_id word new = Relabels old chunk_id (worded word) new

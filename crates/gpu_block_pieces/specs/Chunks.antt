@@ -3,14 +3,16 @@ use Rattle.std.specs.Prelude.{◌≡◌, ℕ, ◌+◌, ◌-◌, ◌^◌, ◌<◌
 use Rattle.std.specs.List.{filter_map}
 use Rattle.gpu_values.specs.declared.allocation_type.AllocationType.{AllocationType}
 use Rattle.gpu_values.specs.declared.allocation_type.AllocationType.TheVariants.{Free, Linear, NonLinear}
+use Rattle.gpu_block_chunks.specs.declared.label.Label.{Label}
+use Rattle.gpu_block_chunks.specs.Label.{no_label}
 use Rattle.gpu_block_chunks.specs.declared.chunk.Chunk.{Chunk}
-use Rattle.gpu_block_chunks.specs.ChunkList.{IsFree, Covers, AreDistinct, cut_chunk, filled_chunk, join_back, join_front}
+use Rattle.gpu_block_chunks.specs.ChunkList.{IsFree, Covers, AreDistinct, cut_chunk, filled_chunk, labelled_chunk, join_back, join_front}
 use Rattle.gpu_block_pieces.specs.declared.place.Wanted.{Wanted}
 use Rattle.gpu_block_pieces.specs.FreeList.{Extent, FreeList}
 use Rattle.gpu_block_pieces.specs.Place.{FitsBetween}
 
 abbrev pub extent : Chunk → Extent
-extent c = record { start = c.start; offset = c.offset; end = c.start + c.size; kind = c.kind; chunk_id = c.chunk_id; name = c.name }
+extent c = record { start = c.start; offset = c.offset; end = c.start + c.size; kind = c.kind; chunk_id = c.chunk_id; name = c.label.name; word = c.label.word }
 
 abbrev pub extent_by : AllocationType → Chunk → Option Extent
 extent_by Free c = None
@@ -137,26 +139,24 @@ pub record HoldsChunkId (cs : List Chunk) (chunk_id i : ℕ) : Type 0 where
   pub live : IsFree chunk.kind → ⊥
   pub numbered : chunk.chunk_id ≡ chunk_id
 
-abbrev pub named_chunk : Chunk → List ℕ → Chunk
-named_chunk c name = record c { name = name }
-
-abbrev pub IsNamedAt : List Chunk → ℕ → List ℕ → List Chunk → Type 0
-IsNamedAt old i name new =
-    (front : List Chunk) (c : Chunk) (back : List Chunk) → old ≡ front ++ c ∷ back → length front ≡ i → new ≡ front ++ named_chunk c name ∷ back
+-- the i-th chunk has a changed label
+abbrev pub IsLabelledAt : List Chunk → ℕ → (Label → Label) → List Chunk → Type 0
+IsLabelledAt old i change new =
+    (front : List Chunk) (c : Chunk) (back : List Chunk) → old ≡ front ++ c ∷ back → length front ≡ i → new ≡ front ++ labelled_chunk change c ∷ back
 
 abbrev pub IsReleasedAt : List Chunk → ℕ → List Chunk → Type 0
 IsReleasedAt old i new =
     (front : List Chunk) (c : Chunk) (back : List Chunk) → old ≡ front ++ c ∷ back → length front ≡ i →
-    new ≡ join_front front (join_back (filled_chunk c c.start Free []) back)
+    new ≡ join_front front (join_back (filled_chunk c c.start Free no_label) back)
 
-abbrev pub piece_of : Chunk → FoundAt → Wanted → ℕ → List ℕ → Chunk
-piece_of c f w chunk_id name = record { start = c.start; size = f.offset + w.size - c.start; offset = f.offset; kind = w.kind; chunk_id = chunk_id; name = name }
+abbrev pub piece_of : Chunk → FoundAt → Wanted → ℕ → Label → Chunk
+piece_of c f w chunk_id label = record { start = c.start; size = f.offset + w.size - c.start; offset = f.offset; kind = w.kind; chunk_id = chunk_id; label = label }
 
 -- the chunk c between front and back was given to the piece, or its front was
-pub record TakenFrom (front : List Chunk) (c : Chunk) (back : List Chunk) (f : FoundAt) (w : Wanted) (counter : ℕ) (name : List ℕ) (chunk_id : ℕ) (new : List Chunk) : Type 0 where
-  pub rest : f.offset + w.size < c.start + c.size → (chunk_id ≡ counter) × (new ≡ front ++ piece_of c f w counter name ∷ cut_chunk c (f.offset + w.size - c.start) ∷ back)
-  pub whole : c.start + c.size ≤ f.offset + w.size → (chunk_id ≡ c.chunk_id) × (new ≡ front ++ filled_chunk c f.offset w.kind name ∷ back)
+pub record TakenFrom (front : List Chunk) (c : Chunk) (back : List Chunk) (f : FoundAt) (w : Wanted) (counter : ℕ) (label : Label) (chunk_id : ℕ) (new : List Chunk) : Type 0 where
+  pub rest : f.offset + w.size < c.start + c.size → (chunk_id ≡ counter) × (new ≡ front ++ piece_of c f w counter label ∷ cut_chunk c (f.offset + w.size - c.start) ∷ back)
+  pub whole : c.start + c.size ≤ f.offset + w.size → (chunk_id ≡ c.chunk_id) × (new ≡ front ++ filled_chunk c f.offset w.kind label ∷ back)
 
-abbrev pub IsTaken : List Chunk → FoundAt → Wanted → ℕ → List ℕ → ℕ → List Chunk → Type 0
-IsTaken old f w counter name chunk_id new =
-    (front : List Chunk) (c : Chunk) (back : List Chunk) → old ≡ front ++ c ∷ back → length front ≡ f.index → TakenFrom front c back f w counter name chunk_id new
+abbrev pub IsTaken : List Chunk → FoundAt → Wanted → ℕ → Label → ℕ → List Chunk → Type 0
+IsTaken old f w counter label chunk_id new =
+    (front : List Chunk) (c : Chunk) (back : List Chunk) → old ≡ front ++ c ∷ back → length front ≡ f.index → TakenFrom front c back f w counter label chunk_id new

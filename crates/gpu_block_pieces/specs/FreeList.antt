@@ -4,7 +4,7 @@ use Rattle.std.specs.List.{sum_by, list_any}
 use Rattle.gpu_values.specs.declared.allocation_type.AllocationType.{AllocationType}
 use Rattle.gpu_cost.specs.Cost.{Counts}
 
--- [start, end) belongs to one live piece, which begins at `offset`; what lies before that is padding
+-- [start, end) belongs to one live piece, which begins at `offset`; what lies before that is padding; its caller named it, and keeps a word with it
 pub record Extent : Type 0 where
   pub start : ℕ
   pub offset : ℕ
@@ -12,6 +12,7 @@ pub record Extent : Type 0 where
   pub kind : AllocationType
   pub chunk_id : ℕ
   pub name : List ℕ
+  pub word : ℕ
 
 -- the extents stand in the order of their starts; `gap_numbers` has each gap's start and its number, in the same order
 pub record FreeList : Type 0 where

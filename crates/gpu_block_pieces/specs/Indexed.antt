@@ -169,13 +169,20 @@ pub record IsFreed (old : List Chunk) (chunk_id bytes : ℕ) (new : List Chunk) 
   pub bytes_is : bytes ≡ chunk.size
   pub released : IsReleased old chunk_id new
 
--- the piece of that number has that offset and kind
-pub record IsPieceOf (cs : List Chunk) (chunk_id offset : ℕ) (kind : AllocationType) : Type 0 where
+-- a piece has the number
+pub record IsPieceAt (cs : List Chunk) (chunk_id : ℕ) : Type 0 where
+  pub chunk : Chunk
+  pub at : StandsAt cs chunk_id chunk
+  pub live : IsFree chunk.kind → ⊥
+
+-- the piece of that number has that offset, kind and word
+pub record IsPieceOf (cs : List Chunk) (chunk_id offset : ℕ) (kind : AllocationType) (word : ℕ) : Type 0 where
   pub chunk : Chunk
   pub at : StandsAt cs chunk_id chunk
   pub live : IsFree chunk.kind → ⊥
   pub offset_is : offset ≡ chunk.offset
   pub kind_is : kind ≡ chunk.kind
+  pub word_is : word ≡ chunk.label.word
 
 -- ---- what a search costs
 

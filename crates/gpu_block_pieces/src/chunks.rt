@@ -4,14 +4,15 @@ ghost use Rattle.std.specs.Prelude.{◌≡◌, ◌≢◌, ℕ, ◌+◌, ◌^◌,
 ghost use Rattle.std.specs.List.{list_any};
 ghost use Rattle.gpu_cost.specs.Cost.{LooksUp, LooksUpBetween, Tests};
 ghost use Rattle.gpu_block_chunks.specs.ChunkList.{IsFree, chunk_of};
-ghost use Rattle.gpu_block_pieces.specs.Chunks.{IsTaken, IsNamedAt, HoldsChunkId, extents_of, is_gap_by};
+ghost use Rattle.gpu_block_pieces.specs.Chunks.{IsTaken, IsLabelledAt, HoldsChunkId, extents_of, is_gap_by};
 ghost use Rattle.gpu_block_chunks.specs.Chain.{IsFresh, HasNoChunkId, StandsAt};
-ghost use Rattle.gpu_block_pieces.specs.Indexed.{HasSame, gaps_between, ArePlaced, IsChosen, chosen_at, IsFreed, IsPieceOf, IsLongestOf};
+ghost use Rattle.gpu_block_chunks.specs.Label.{with_name, with_word};
+ghost use Rattle.gpu_block_pieces.specs.Indexed.{HasSame, gaps_between, ArePlaced, IsChosen, chosen_at, IsFreed, IsPieceAt, IsPieceOf, IsLongestOf};
 
 use crate::place::Wanted;
 use crate::search::Found;
 use crate::update::{allocate_front, allocate_whole, release};
-use gpu_block_chunks::{Chain, ChunkView, NewName, Walk, is_free};
+use gpu_block_chunks::{Chain, ChunkView, NewLabel, Walk, is_free};
 use gpu_block_gaps::{Gap, GapIndex};
 use gpu_cost::Cost;
 use gpu_values::AllocationType;
@@ -96,7 +97,7 @@ impl Chunks {
         found: Found,
         wanted: &Wanted,
         counter: u64,
-        name: NewName<'_>,
+        label: NewLabel<'_>,
         cost: &mut Cost,
     ) -> Result<u64, AllocError>
         requires chosen { IsChosen self.old.items wanted.now found }
@@ -105,7 +106,7 @@ impl Chunks {
         requires fresh { HasNoChunkId self.old.items counter }
         ensures taken { IfOk result (λ chunk_id. (h : IsChosen self.old.items wanted.now found)
             → IsTaken self.old.items (chosen_at self.old.items wanted.now found h) wanted.now
-            counter name.entry chunk_id self.new.items) }
+            counter label.entry chunk_id self.new.items) }
         ensures refused { OnErr result (self.new.items ≡ self.old.items) }
         ensures size { self.new.size ≡ self.old.size }
         // three or four look-ups where a rest is left, and one where none is
@@ -130,7 +131,7 @@ impl Chunks {
                 taken,
                 wanted.kind,
                 counter,
-                name,
+                label,
                 cost,
             );
             return Ok(counter);
@@ -141,7 +142,7 @@ impl Chunks {
             &mut self.index,
             found,
             wanted.kind,
-            name,
+            label,
             cost,
         );
         Ok(found.gap.chunk_id)
@@ -197,19 +198,33 @@ impl Chunks {
         chunk_id: u64,
         offset: u64,
         kind: AllocationType,
-        text: NewName<'_>,
+        label: NewLabel<'_>,
         cost: &mut Cost,
     )
-        requires piece { IsPieceOf self.old.items chunk_id offset kind }
+        requires piece { IsPieceOf self.old.items chunk_id offset kind label.word }
         ensures named { (i : ℕ) → HoldsChunkId self.old.items chunk_id i
-            → IsNamedAt self.old.items i text.entry self.new.items }
+            → IsLabelledAt self.old.items i (with_name label.entry.name) self.new.items }
         ensures size { self.new.size ≡ self.old.size }
         ensures counted { LooksUp 1 cost.old cost.new }
     {
         // two reads, so that the proof has the invariant
         self.chain.laid_out();
         let _live = self.live;
-        self.chain.fill(chunk_id, offset, kind, text, cost);
+        self.chain.fill(chunk_id, offset, kind, label, cost);
+    }
+
+    /// Gives the live piece of that chunk id another word.
+    pub fn set_word(&mut self, chunk_id: u64, word: u64, cost: &mut Cost)
+        requires { IsPieceAt self.old.items chunk_id }
+        ensures worded { (i : ℕ) → HoldsChunkId self.old.items chunk_id i
+            → IsLabelledAt self.old.items i (with_word word) self.new.items }
+        ensures size { self.new.size ≡ self.old.size }
+        ensures counted { LooksUp 1 cost.old cost.new }
+    {
+        // two reads, so that the proof has the invariant
+        self.chain.laid_out();
+        let _live = self.live;
+        self.chain.set_word(chunk_id, word, cost);
     }
 
     /// All chunks, from the block's start on.

@@ -9,7 +9,7 @@ ghost use Rattle.gpu_values.specs.declared.error.AllocationError.TheVariants.{Ho
 use crate::chunks::Chunks;
 use crate::place::Wanted;
 use crate::search::{Found, find};
-use gpu_block_chunks::NewName;
+use gpu_block_chunks::{NewLabel, NewName};
 use gpu_cost::Cost;
 use gpu_values::{AllocationError, AllocationType, Result, internal_fault};
 use std::alloc::Global;
@@ -71,7 +71,7 @@ impl FreeListAllocator {
     ghost use Rattle.gpu_block_pieces.specs.Request.{request};
     ghost use Rattle.gpu_cost.specs.Cost.{Rises};
     ghost use Rattle.gpu_block_pieces.specs.Search.{IsSearch, LooksUpTo};
-    ghost use Rattle.gpu_block_pieces.specs.Changes.{Takes, Releases, Renames};
+    ghost use Rattle.gpu_block_pieces.specs.Changes.{Takes, Releases, Renames, SetsWord};
     ghost use Rattle.gpu_block_pieces.specs.BlockRefusal.{IsAllocateRefusal, release_refusal, IsRenameRefusal};
     ghost use Rattle.gpu_block_pieces.specs.Laws.{IsSound, IsInOrder, IsPageSeparated, IsLongEnough, IsForChunkIds, IsCovered};
 
@@ -136,7 +136,7 @@ impl FreeListAllocator {
         if rest && self.counter == u64::MAX {
             return Err(AllocationError::OutOfMemory);
         }
-        let text = NewName::new(self.alloc, name)?;
+        let text = NewLabel::new(self.alloc, name)?;
         let chunk_id = self
             .chunks
             .allocate(found, &wanted, self.counter, text, &mut self.cost)?;
@@ -201,9 +201,43 @@ impl FreeListAllocator {
         };
         let offset = piece.offset;
         let kind = piece.kind;
+        let word = piece.label.word;
         let new_name = NewName::new(self.alloc, name)?;
+        let label = NewLabel {
+            name: new_name,
+            word,
+        };
         self.chunks
-            .rename(id.get(), offset, kind, new_name, &mut self.cost);
+            .rename(id.get(), offset, kind, label, &mut self.cost);
+        Ok(())
+    }
+
+    /// Keeps another word of the caller's with a live piece. `Internal`, as for a new name, where the number is missing, a gap's or
+    /// nobody's, and then the block stays as it was. It takes no memory.
+    pub fn set_word(&mut self, chunk_id: Option<NonZeroU64>, word: u64) -> Result<()>
+        ensures set { OnOk result (IsSomeAnd chunk_id
+            (λ n. SetsWord self.old.block (non_zero_u64_get n) word self.new.block)) }
+        ensures cause { IfErr result (λ e. IsRenameRefusal self.old.block chunk_id (refusal_of e)) }
+        ensures no_memory { IfErr result (λ e. e ≢ HostOutOfMemory) }
+        ensures refused { OnErr result (self.new.block ≡ self.old.block) }
+        ensures pages { self.new.block.granularity ≡ self.old.block.granularity }
+        ensures sound { OnOk result (IsSound self.new.block) }
+        ensures ordered { OnOk result (IsInOrder self.new.block) }
+        ensures separated { OnOk result (IsPageSeparated self.new.block) }
+        ensures covered { OnOk result (IsCovered self.new.block) }
+        ensures cost { Rises self.old.cost self.new.cost }
+        ensures lookups { LooksUpTo 2 self.old.cost self.new.cost }
+    {
+        let Some(id) = chunk_id else {
+            return Err(internal_fault("Chunk ID must be a valid value."));
+        };
+        let Some(_piece) = self.chunks.piece(id.get(), &mut self.cost) else {
+            if self.chunks.has_gap(id.get(), &mut self.cost) {
+                return Err(internal_fault("Attempting to rename a freed allocation."));
+            }
+            return Err(internal_fault("Attempting to rename chunk that is not in chunk list."));
+        };
+        self.chunks.set_word(id.get(), word, &mut self.cost);
         Ok(())
     }
 

@@ -142,7 +142,7 @@ fn write_name<W: fmt::Write>(chunk: &ChunkView<'_>, f: &mut fmt::Formatter<W>) -
     ensures { DisplaysOnOk W.write_str_gives f.old result
         (Some (name_line (extent (chunk_of chunk.now)))) f.new }
 {
-    let name = chunk.name.as_str();
+    let name = chunk.label.name.as_str();
     write!(f, "        name: {name}\n    }}\n")
 }
 

@@ -88,7 +88,14 @@ impl<'a> LivePiece<'a> {
     pub fn name(&self) -> &str
         ensures { result.now ≡ self.now.name }
     {
-        self.chunk.name.as_str()
+        self.chunk.label.name.as_str()
+    }
+
+    /// The word that its caller keeps with it, 0 before one is set.
+    pub fn word(&self) -> u64
+        ensures { result ≡ self.now.word }
+    {
+        self.chunk.label.word
     }
 }
 

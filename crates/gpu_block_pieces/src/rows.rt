@@ -14,13 +14,13 @@ use std::alloc::{AllocError, Global};
 fn row_of(alloc: Global, chunk: &ChunkView<'_>, size: u64) -> Result<AllocationReport, AllocError>
     ensures { IfOk result (λ a. row_of a
         ≡ record {
-          name = (chunk_of chunk.now).name;
+          name = (chunk_of chunk.now).label.name;
           offset = chunk.now.offset;
           size = size;
         }) }
 {
     Ok(AllocationReport {
-        name: String::from_str(alloc, chunk.name.as_str())?,
+        name: String::from_str(alloc, chunk.label.name.as_str())?,
         offset: chunk.offset,
         size,
     })

@@ -9,7 +9,7 @@ ghost use Rattle.gpu_block_gaps.specs.declared.index.Gap.{Gap};
 ghost use Rattle.gpu_block_gaps.specs.Index.{HasNoKey};
 
 use crate::search::Found;
-use gpu_block_chunks::{Chain, Neighbour, Neighbours, NewName, is_free};
+use gpu_block_chunks::{Chain, Neighbour, Neighbours, NewLabel, is_free};
 use gpu_block_gaps::{Gap, GapIndex};
 use gpu_cost::Cost;
 use gpu_values::AllocationType;
@@ -22,7 +22,7 @@ pub fn allocate_front(
     taken: u64,
     kind: AllocationType,
     chunk_id: u64,
-    name: NewName<'_>,
+    label: NewLabel<'_>,
     cost: &mut Cost,
 )
     requires listed { IsListed chain.old.chunks index.old.gaps }
@@ -33,7 +33,7 @@ pub fn allocate_front(
     requires fresh { HasNoChunkId chain.old.chunks chunk_id }
     requires room { (0 < chain.old.room) × (length index.old.gaps ≤ index.old.room) }
     ensures chunks { IsSplit chain.old.chunks found.gap.chunk_id taken chunk_id found.offset kind
-        name.entry chain.new.chunks }
+        label.entry chain.new.chunks }
     ensures listed { IsListed chain.new.chunks index.new.gaps }
     ensures live { length (extents_of chain.new.chunks) ≡ length (extents_of chain.old.chunks) + 1 }
     ensures size { (chain.new.size ≡ chain.old.size) × (index.new.room ≡ index.old.room) }
@@ -47,7 +47,7 @@ pub fn allocate_front(
         taken,
         found.offset,
         kind,
-        name,
+        label,
         cost,
     );
     index.in_order();
@@ -67,13 +67,13 @@ pub fn allocate_whole(
     index: &mut GapIndex,
     found: Found,
     kind: AllocationType,
-    name: NewName<'_>,
+    label: NewLabel<'_>,
     cost: &mut Cost,
 )
     requires listed { IsListed chain.old.chunks index.old.gaps }
     requires gap { IsGapOf chain.old.chunks found.gap }
     requires piece { kind ≢ AllocationType.Free }
-    ensures chunks { IsFilled chain.old.chunks found.gap.chunk_id found.offset kind name.entry
+    ensures chunks { IsFilled chain.old.chunks found.gap.chunk_id found.offset kind label.entry
         chain.new.chunks }
     ensures listed { IsListed chain.new.chunks index.new.gaps }
     ensures live { length (extents_of chain.new.chunks) ≡ length (extents_of chain.old.chunks) + 1 }
@@ -83,7 +83,7 @@ pub fn allocate_whole(
     chain.laid_out();
     let gap = found.gap;
     index.remove(gap.length, gap.start);
-    chain.fill(gap.chunk_id, found.offset, kind, name, cost);
+    chain.fill(gap.chunk_id, found.offset, kind, label, cost);
 }
 
 /// Takes the gap beside a chunk out of the index, if what stands there is one.

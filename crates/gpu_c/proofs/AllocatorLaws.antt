@@ -11,7 +11,7 @@ use Rattle.gpu_core.specs.TypeState.{Slot, slot_at}
 use Rattle.gpu_core.specs.declared.piece.Piece.{Piece}
 use Rattle.gpu_core.specs.Blocks.{Slots, slots_at}
 use Rattle.gpu_core.specs.Budgets.{Budgets}
-use Rattle.gpu_pool.specs.Idle.{FreesIn, RenamesIn, RenamesIdle, SetsBudgetIn, SetsBudgetIdle}
+use Rattle.gpu_pool.specs.Idle.{FreesIn, RenamesIn, RenamesIdle, SetsBudgetIn, SetsBudgetIdle, SetsWordIn, SetsWordIdle}
 use Rattle.gpu_pool.specs.Live as machine_live
 use Rattle.gpu_pool.specs.RequestState.{RequestState, with_sizes}
 use Rattle.gpu_pool.proofs.Beginning.{sized_back}
@@ -136,6 +136,13 @@ module _ (old new : State) (t : ℕ) (p : Piece MappedMemory) where
 
   pub freed_lived : (back : Option (MemoryBack MappedMemory)) → old.requests.awaited ≡ None → Frees is_same_block old t p (Ok back) new → Lives old.requests.slots t p
   freed_lived back closed h = freed_in old.requests.awaited (memory_in back) closed h.frees
+
+  worded_in : (o : Option Awaited) (word : ℕ) → o ≡ None → SetsWordIn is_same_block o old.requests t p word (Ok tt) new.requests → Lives old.requests.slots t p
+  worded_in None word closed h = h.0.live
+  worded_in (Some a) word closed h = absurd (grind (arith, closed))
+
+  pub worded_lived : (word : ℕ) → old.requests.awaited ≡ None → SetsWordIdle is_same_block old.requests t p word (Ok tt) new.requests → Lives old.requests.slots t p
+  worded_lived word closed h = worded_in old.requests.awaited word closed h
 
   not_freed_in : (o : Option Awaited) (e : AllocationError) → o ≡ None → FreesIn is_same_block o old.requests t p (Err e) new.requests → (Lives old.requests.slots t p → ⊥) × (new.requests ≡ old.requests)
   not_freed_in None e closed h = (h.0, h.2)

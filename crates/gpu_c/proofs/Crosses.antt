@@ -20,6 +20,7 @@ use Rattle.gpu_block_gaps.specs.contracts.index.GapIndex as GapIndex
 use Rattle.gpu_block_gaps.specs.contracts.packed_record.PackedRecord as PackedRecord
 use Rattle.gpu_block_gaps.specs.contracts.tagged_slot.TaggedSlot as TaggedSlot
 use Rattle.gpu_block_gaps.specs.contracts.thread.Thread as Thread
+use Rattle.gpu_block_chunks.specs.contracts.label.Label as Label
 use Rattle.gpu_block_chunks.specs.contracts.name.Name as Name
 use Rattle.gpu_block_chunks.specs.contracts.chunk.Chunk as Chunk
 use Rattle.gpu_block_chunks.specs.contracts.chain.chunk_ids.ChunkIds as ChunkIds
@@ -77,10 +78,13 @@ use Rattle.gpu_c.specs.contracts.memory_type.AwaitingType as AwaitingType
 use Rattle.gpu_c.specs.contracts.virtual_block.VirtualBlock as VirtualBlock
 
 name_send : IsSend Name.the_row
-name_send = search (sendable, Vec-send) depth 20
+name_send = search (sendable, Vec-send, Box-send) depth 20
+
+label_send : IsSend (Label.the_field).row
+label_send = let n = name_send in search sendable depth 20
 
 chunk_send : IsSend (Chunk.the_field).row
-chunk_send = let n = name_send in search sendable depth 20
+chunk_send = let l = label_send in search sendable depth 20
 
 tagged_send : IsSend TaggedSlot.the_row
 tagged_send = search sendable depth 20
@@ -122,7 +126,7 @@ cell_send : IsSend (Cell.the_field).row
 cell_send = let l = link_send in search sendable depth 20
 
 slots_send : IsSend Slots.the_row
-slots_send = let c = cell_send in let n = name_send in let l = link_send in search (sendable, Vec-send) depth 20
+slots_send = let c = cell_send in let n = label_send in let l = link_send in search (sendable, Vec-send) depth 20
 
 pub key_send : IsSend u64
 key_send = search sendable

@@ -21,7 +21,7 @@ use Rattle.gpu_d3d12.specs.declared.committed_requests.AwaitedResource.{AwaitedR
 use Rattle.gpu_d3d12.specs.declared.committed_requests.Committed.{Committed}
 use Rattle.gpu_d3d12.specs.declared.describe.AllocationCreateDesc.{AllocationCreateDesc}
 use Rattle.gpu_pool.specs.Begin as pools
-use Rattle.gpu_pool.specs.Idle.{FreesIn, FreesIdle, RenamesIn, RenamesIdle}
+use Rattle.gpu_pool.specs.Idle.{FreesIn, FreesIdle, RenamesIn, RenamesIdle, SetsWordIn, SetsWordIdle}
 use Rattle.gpu_pool.specs.Live as machine_live
 use Rattle.gpu_pool.specs.RequestState.{RequestState}
 use Rattle.gpu_pool.specs.declared.requests.Awaited.{Awaited}
@@ -133,6 +133,13 @@ module _ (old new : State) (t : ℕ) (p : Piece ID3D12Heap) where
 
   pub freed_lived : (back : Option ID3D12Heap) → old.requests.awaited ≡ None → FreesIdle is_same_heap old.requests t p (Ok back) new.requests → Lives old.requests.slots t p
   freed_lived back closed h = freed_in old.requests.awaited back closed h
+
+  worded_in : (o : Option Awaited) (word : ℕ) → o ≡ None → SetsWordIn is_same_heap o old.requests t p word (Ok tt) new.requests → Lives old.requests.slots t p
+  worded_in None word closed h = h.0.live
+  worded_in (Some a) word closed h = absurd (grind (arith, closed))
+
+  pub worded_lived : (word : ℕ) → old.requests.awaited ≡ None → SetsWordIdle is_same_heap old.requests t p word (Ok tt) new.requests → Lives old.requests.slots t p
+  worded_lived word closed h = worded_in old.requests.awaited word closed h
 
   not_freed_in : (o : Option Awaited) (e : AllocationError) → o ≡ None → FreesIn is_same_heap o old.requests t p (Err e) new.requests → (Lives old.requests.slots t p → ⊥) × (new.requests ≡ old.requests)
   not_freed_in None e closed h = (h.0, h.2)

@@ -8,12 +8,12 @@ use Rattle.gpu_block_pieces.specs.Request.{Request, request}
 use Rattle.gpu_core.specs.TypeState.{Slot, TypeState, slot_at, capacity_of, fits_budget, KeepsOneEmptyAtMost}
 use Rattle.gpu_core.specs.Slots.{AreSound}
 use Rattle.gpu_core.specs.TypeTake.{has_dedicated_block, PreparesPiece, NeedsBlock, Installs}
-use Rattle.gpu_core.specs.TypeRelease.{SlotHolds, IsLive, has_others, ReleasesPiece, RenamesPiece}
+use Rattle.gpu_core.specs.TypeRelease.{SlotHolds, IsLive, has_others, ReleasesPiece, RenamesPiece, SetsWordOf}
 use Rattle.gpu_core.specs.declared.piece.Piece.{Piece}
 use Rattle.gpu_core.specs.declared.need.NeedBlock.{NeedBlock}
 use Rattle.gpu_c.specs.Request.{kind_named}
 use Rattle.gpu_c.specs.MemoryType.{AwaitingState, state_of, type_of, memory_piece, memory_block, SlotHasPiece, IsLiveIn, asked_of_type, AllocatesPiece, AwaitsNeeded, Awaits, InstallsBy, InstallsAwaited}
-use Rattle.gpu_c.specs.MemoryType.{FreesPiece, NamesMemory}
+use Rattle.gpu_c.specs.MemoryType.{FreesPiece, NamesMemory, SetsWord}
 use Rattle.gpu_c.specs.declared.memory_type_values.MemoryRequest.{MemoryRequest}
 use Rattle.gpu_c.specs.declared.memory_type_values.MemoryPiece.{MemoryPiece}
 use Rattle.gpu_c.specs.declared.memory_type_values.MemoryBlock.{MemoryBlock}
@@ -87,6 +87,23 @@ names_memory old t t' sizes a p cp name view idle named live renames capacity st
       formed = record { sound = stays.sound; empty = stays.empty };
       same =
           changed t t' sizes a a a stays refl;
+    }))
+
+pub words_memory : (old : AwaitingState) (t t' : TypeState ℕ) (sizes : Sizes) (a : Option NeedBlock) (p : Piece ℕ) (cp : MemoryPiece) (word : ℕ)
+    → state_of t sizes a ≡ old → a ≡ None → memory_piece p ≡ cp → IsLive nat_eq t.slots p → SetsWordOf t.slots p word t'.slots → capacity_of t'.slots ≡ capacity_of t.slots → Stays t t'
+    → SetsWord old cp word (state_of t' sizes a)
+words_memory old t t' sizes a p cp word view idle named live sets capacity stays =
+    subst (λ (s : AwaitingState). SetsWord s cp word (state_of t' sizes a)) view
+    (subst (λ (q : MemoryPiece). SetsWord (state_of t sizes a) q word (state_of t' sizes a)) named
+    (record {
+      idle = idle;
+      live = live_memory_piece t sizes a p live;
+      piece = p;
+      named = refl;
+      sets = sets;
+      capacity = capacity;
+      formed = record { sound = stays.sound; empty = stays.empty };
+      same = changed t t' sizes a a a stays refl;
     }))
 
 -- ---- prepare

@@ -14,7 +14,7 @@ use Rattle.gpu_metal.specs.Blocks.{is_same_heap}
 use Rattle.gpu_metal.specs.HeapAnswer.{heap_refusal}
 use Rattle.gpu_metal.specs.declared.describe.AllocationCreateDesc.{AllocationCreateDesc}
 use Rattle.gpu_pool.specs.Begin as pools
-use Rattle.gpu_pool.specs.Idle.{FreesIn, RenamesIn, RenamesIdle}
+use Rattle.gpu_pool.specs.Idle.{FreesIn, RenamesIn, RenamesIdle, SetsWordIn, SetsWordIdle}
 use Rattle.gpu_pool.specs.Live as machine_live
 use Rattle.gpu_pool.specs.RequestState.{RequestState}
 use Rattle.gpu_pool.specs.declared.requests.Awaited.{Awaited}
@@ -122,6 +122,13 @@ module _ (old new : State) (t : ℕ) (p : Piece MTLHeap) where
 
   pub freed_lived : (back : Option HeapBack) → old.requests.awaited ≡ None → Frees old t p (Ok back) new → Lives old.requests.slots t p
   freed_lived back closed h = freed_in old.requests.awaited (option_map (λ (b : HeapBack). b.heap) back) closed h.frees
+
+  worded_in : (o : Option Awaited) (word : ℕ) → o ≡ None → SetsWordIn is_same_heap o old.requests t p word (Ok tt) new.requests → Lives old.requests.slots t p
+  worded_in None word closed h = h.0.live
+  worded_in (Some a) word closed h = absurd (grind (arith, closed))
+
+  pub worded_lived : (word : ℕ) → old.requests.awaited ≡ None → SetsWordIdle is_same_heap old.requests t p word (Ok tt) new.requests → Lives old.requests.slots t p
+  worded_lived word closed h = worded_in old.requests.awaited word closed h
 
   not_freed_in : (o : Option Awaited) (e : AllocationError) → o ≡ None → FreesIn is_same_heap o old.requests t p (Err e) new.requests → (Lives old.requests.slots t p → ⊥) × (new.requests ≡ old.requests)
   not_freed_in None e closed h = (h.0, h.2)

@@ -14,7 +14,7 @@ use Rattle.gpu_device.specs.declared.vulkan.types.AllocationScheme.{AllocationSc
 use Rattle.gpu_device.specs.declared.vulkan.types.AllocationScheme.TheVariants as schemes
 use Rattle.gpu_device.specs.declared.vulkan.types.MemoryHeap.{MemoryHeap}
 use Rattle.gpu_device.specs.declared.vulkan.types.MemoryTypeInfo.{MemoryTypeInfo}
-use Rattle.gpu_pool.specs.Idle.{RenamesIdle}
+use Rattle.gpu_pool.specs.Idle.{RenamesIdle, SetsWordIdle}
 use Rattle.gpu_pool.specs.Live as machine_live
 use Rattle.gpu_vulkan.specs.Setup.{properties_told, lacks_heap}
 use Rattle.gpu_vulkan.specs.declared.describe.AllocationCreateDesc.{AllocationCreateDesc}
@@ -201,7 +201,7 @@ pub record IsDeclined (old : State) (cause : Refusal) (out : AllocatorProgress) 
 abbrev pub code_if : Bool → ℤ → Option ℤ
 code_if exists code = if exists then Some code else None
 
--- ---- free, rename
+-- ---- free, rename, word
 
 -- the piece that C names is live
 pub record IsLive (s : State) (p : AllocatorPiece) : Type 0 where
@@ -224,4 +224,12 @@ pub record IsRenamed (old : State) (p : AllocatorPiece) (name : List ℕ) (new :
   pub piece : Piece MappedMemory
   pub named : Names p piece
   pub renames : RenamesIdle is_same_block old.requests p.memory_type piece name (Ok tt) new.requests
+  pub others : new ≡ record old { requests = new.requests }
+
+-- this word is kept with the piece
+pub record IsWorded (old : State) (p : AllocatorPiece) (word : ℕ) (new : State) : Type 0 where
+  pub idle : old.requests.awaited ≡ None
+  pub piece : Piece MappedMemory
+  pub named : Names p piece
+  pub sets : SetsWordIdle is_same_block old.requests p.memory_type piece word (Ok tt) new.requests
   pub others : new ≡ record old { requests = new.requests }

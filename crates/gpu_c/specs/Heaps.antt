@@ -19,7 +19,7 @@ use Rattle.gpu_device.specs.declared.d3d12.types.MemoryPool.{MemoryPool}
 use Rattle.gpu_device.specs.declared.d3d12.types.MemoryPool.TheVariants as pools
 use Rattle.gpu_device.specs.declared.d3d12.types.ResourceHeapTier.{ResourceHeapTier}
 use Rattle.gpu_device.specs.declared.d3d12.types.ResourceHeapTier.TheVariants as tiers
-use Rattle.gpu_pool.specs.Idle.{FreesIdle, RenamesIdle}
+use Rattle.gpu_pool.specs.Idle.{FreesIdle, RenamesIdle, SetsWordIdle}
 use Rattle.gpu_pool.specs.Live as machine_live
 use Rattle.gpu_d3d12.specs.Blocks.{is_same_heap}
 use Rattle.gpu_d3d12.specs.Committed.{records_at, place_of}
@@ -208,7 +208,7 @@ pub record IsDeclined (old : State) (code : ℤ) (out : HeapsProgress) (new : St
   pub told : out ≡ refused_told (answer_refusal (code_told code))
   pub state : new ≡ record old { requests = record old.requests { awaited = None } }
 
--- ---- free, rename
+-- ---- free, rename, word
 
 -- the piece that C names is live
 pub record IsLive (s : State) (p : HeapsPiece) : Type 0 where
@@ -232,6 +232,14 @@ pub record IsRenamed (old : State) (p : HeapsPiece) (name : List ℕ) (new : Sta
   pub piece : Piece ID3D12Heap
   pub named : piece_told piece ≡ p.piece
   pub renames : RenamesIdle is_same_heap old.requests p.memory_type piece name (Ok tt) new.requests
+  pub others : new ≡ record old { requests = new.requests }
+
+-- this word is kept with the piece
+pub record IsWorded (old : State) (p : HeapsPiece) (word : ℕ) (new : State) : Type 0 where
+  pub idle : old.requests.awaited ≡ None
+  pub piece : Piece ID3D12Heap
+  pub named : piece_told piece ≡ p.piece
+  pub sets : SetsWordIdle is_same_heap old.requests p.memory_type piece word (Ok tt) new.requests
   pub others : new ≡ record old { requests = new.requests }
 
 -- ---- committed resources

@@ -10,7 +10,7 @@ use Rattle.gpu_core.specs.TypeState.{Slot, TypeState, slot_at, capacity_of, shar
 use Rattle.gpu_core.specs.Slots.{AreSound}
 use Rattle.gpu_core.specs.TypeTake.{has_dedicated_block, next_shared_size, NoneServes, PreparesPiece, NeedsBlock, Installs}
 use Rattle.gpu_core.specs.TypePrepare.{CanInstall}
-use Rattle.gpu_core.specs.TypeRelease.{has_others, ReleasesPiece, RenamesPiece}
+use Rattle.gpu_core.specs.TypeRelease.{has_others, ReleasesPiece, RenamesPiece, SetsWordOf}
 use Rattle.gpu_core.specs.declared.piece.Piece.{Piece}
 use Rattle.gpu_core.specs.declared.need.NeedBlock.{NeedBlock}
 use Rattle.gpu_c.specs.Request.{IsServed, kind_named}
@@ -195,6 +195,17 @@ pub record NamesMemory (old : AwaitingState) (p : MemoryPiece) (name : List ℕ)
   pub piece : Piece ℕ
   pub named : memory_piece piece ≡ p
   pub renames : RenamesPiece old.slots piece name new.slots
+  pub capacity : capacity_of new.slots ≡ capacity_of old.slots
+  pub formed : AreWellFormed new
+  pub same : new ≡ record old { slots = new.slots }
+
+-- this word is kept with the piece
+pub record SetsWord (old : AwaitingState) (p : MemoryPiece) (word : ℕ) (new : AwaitingState) : Type 0 where
+  pub idle : old.awaited ≡ None
+  pub live : IsLiveIn old p
+  pub piece : Piece ℕ
+  pub named : memory_piece piece ≡ p
+  pub sets : SetsWordOf old.slots piece word new.slots
   pub capacity : capacity_of new.slots ≡ capacity_of old.slots
   pub formed : AreWellFormed new
   pub same : new ≡ record old { slots = new.slots }

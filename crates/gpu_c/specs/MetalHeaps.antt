@@ -12,7 +12,7 @@ use Rattle.gpu_device.specs.declared.metal.types.CpuCacheMode.TheVariants as cac
 use Rattle.gpu_device.specs.declared.metal.types.MTLHeap.{MTLHeap}
 use Rattle.gpu_device.specs.declared.metal.types.StorageMode.{StorageMode}
 use Rattle.gpu_device.specs.declared.metal.types.StorageMode.TheVariants as modes
-use Rattle.gpu_pool.specs.Idle.{RenamesIdle}
+use Rattle.gpu_pool.specs.Idle.{RenamesIdle, SetsWordIdle}
 use Rattle.gpu_pool.specs.Live as machine_live
 use Rattle.gpu_metal.specs.Blocks.{is_same_heap}
 use Rattle.gpu_metal.specs.HeapAnswer.{heap_refusal}
@@ -169,7 +169,7 @@ pub record IsDeclined (old : State) (out : MetalHeapsProgress) (new : State) : T
   pub told : out ≡ refused_told heap_refusal
   pub state : new ≡ record old { requests = record old.requests { awaited = None } }
 
--- ---- free, rename
+-- ---- free, rename, word
 
 -- the piece that C names is live
 pub record IsLive (s : State) (p : HeapsPiece) : Type 0 where
@@ -192,4 +192,12 @@ pub record IsRenamed (old : State) (p : HeapsPiece) (name : List ℕ) (new : Sta
   pub piece : Piece MTLHeap
   pub named : piece_told piece ≡ p.piece
   pub renames : RenamesIdle is_same_heap old.requests p.memory_type piece name (Ok tt) new.requests
+  pub others : new.has_set ≡ old.has_set
+
+-- this word is kept with the piece
+pub record IsWorded (old : State) (p : HeapsPiece) (word : ℕ) (new : State) : Type 0 where
+  pub idle : old.requests.awaited ≡ None
+  pub piece : Piece MTLHeap
+  pub named : piece_told piece ≡ p.piece
+  pub sets : SetsWordIdle is_same_heap old.requests p.memory_type piece word (Ok tt) new.requests
   pub others : new.has_set ≡ old.has_set

@@ -4,7 +4,7 @@ use Rattle.std.specs.Int.{is_power_of_two}
 use Rattle.gpu_values.specs.declared.error.AllocationError.{AllocationError}
 use Rattle.gpu_block_pieces.specs.FreeList.{Extent, fresh_free_list}
 use Rattle.gpu_block.specs.Dedicated.{empty_dedicated}
-use Rattle.gpu_block.specs.Block.{Block, free_list, dedicated, extents_of, size_of, is_shared, HasPages, TakesIn, ReleasesIn, RenamesIn, IsAllocateRefusalIn, IsFitLaw, IsSoundBlock, IsOrderedBlock}
+use Rattle.gpu_block.specs.Block.{Block, free_list, dedicated, extents_of, size_of, is_shared, HasPages, TakesIn, ReleasesIn, RenamesIn, SetsWordIn, IsAllocateRefusalIn, IsFitLaw, IsSoundBlock, IsOrderedBlock}
 use Rattle.gpu_block.specs.Block.{HasPagesApart, IsCoveredBlock}
 use Rattle.gpu_block.specs.BlockViews.{statistics_of}
 use Rattle.gpu_block_pieces.specs.Request.{Request, request}
@@ -68,6 +68,12 @@ pub record Frees (old : Block) (piece : VirtualPiece) (new : Block) : Type 0 whe
 pub record NamesPiece (old : Block) (piece : VirtualPiece) (name : List ℕ) (new : Block) : Type 0 where
   pub live : IsLivePiece old piece
   pub renames : RenamesIn old piece.number name new
+  pub formed : IsWellFormed new
+
+-- this word is kept with the piece
+pub record SetsWord (old : Block) (piece : VirtualPiece) (word : ℕ) (new : Block) : Type 0 where
+  pub live : IsLivePiece old piece
+  pub sets : SetsWordIn old piece.number word new
   pub formed : IsWellFormed new
 
 -- the block without its pieces

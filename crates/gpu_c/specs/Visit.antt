@@ -15,8 +15,8 @@ kind_number NonLinear = non_linear
 
 -- a piece as C sees it, or none
 abbrev pub piece_view : Option Extent → PieceView
-piece_view None = record { exists = false; number = 0; start = 0; offset = 0; end = 0; kind = 0 }
-piece_view (Some x) = record { exists = true; number = x.chunk_id; start = x.start; offset = x.offset; end = x.end; kind = kind_number x.kind }
+piece_view None = record { exists = false; number = 0; start = 0; offset = 0; end = 0; kind = 0; word = 0 }
+piece_view (Some x) = record { exists = true; number = x.chunk_id; start = x.start; offset = x.offset; end = x.end; kind = kind_number x.kind; word = x.word }
 
 -- the first of the pieces whose own bytes begin at that place or behind it
 abbrev pub piece_from : ℕ → List Extent → Option Extent

@@ -8,7 +8,7 @@ ghost use Rattle.gpu_machine.specs.VulkanState.{told_fault};
 ghost use Rattle.gpu_c.specs.Status as status;
 ghost use Rattle.gpu_c.specs.Status.{IsOneOf};
 ghost use Rattle.gpu_c.specs.MemoryType.{number_if};
-ghost use Rattle.gpu_c.specs.Allocator.{device_told, IsFresh, SaysNothing, IsBegun, IsDenied, IsGranted, IsDeclined, code_if, IsLive, IsFreed, IsRenamed};
+ghost use Rattle.gpu_c.specs.Allocator.{device_told, IsFresh, SaysNothing, IsBegun, IsDenied, IsGranted, IsDeclined, code_if, IsLive, IsFreed, IsRenamed, IsWorded};
 ghost use Rattle.gpu_c.specs.declared.status.TheConstants.{OK, OUT_OF_MEMORY, FAILED_TO_MAP, NO_MEMORY_TYPE, INVALID, INVALID_DEVICE, NOT_LIVE, HOST_OUT_OF_MEMORY, BUDGET_EXCEEDED, DRIVER_REFUSED, NO_SUCH_TYPE, AWAITS_ANSWER, AWAITS_NO_ANSWER};
 
 use crate::allocator_answer::{
@@ -216,6 +216,27 @@ pub fn rename(machine: &mut Machine<MappedMemory>, piece: &AllocatorPiece, name:
                 Ok(_) => OK,
             }
         }
+    }
+}
+
+/// Keeps another word of the caller's with a piece.
+pub fn set_word(machine: &mut Machine<MappedMemory>, piece: &AllocatorPiece, word: u64) -> u32
+    ensures set { result ≡ status.ok → IsWorded machine.old piece.now word machine.new }
+    ensures awaits_answer { (result ≡ status.awaits_answer) ↔ IsSome machine.old.requests.awaited }
+    ensures not_live { (result ≡ status.not_live)
+        ↔ (machine.old.requests.awaited ≡ None) × (IsLive machine.old piece.now → ⊥) }
+    ensures statuses { IsOneOf result (status.ok ∷ status.awaits_answer ∷ status.not_live ∷ []) }
+    ensures refused { result ≢ status.ok → machine.new ≡ machine.old }
+{
+    if machine.awaits_answer() {
+        return AWAITS_ANSWER;
+    }
+    let Some(named) = named_piece(piece) else {
+        return NOT_LIVE;
+    };
+    match machine.set_word(piece.memory_type, &named, word) {
+        Ok(()) => OK,
+        Err(_error) => NOT_LIVE,
     }
 }
 

@@ -15,14 +15,14 @@ ghost use Rattle.gpu_c.specs.Handle.{Changes};
 ghost use Rattle.gpu_c.specs.Status as status;
 ghost use Rattle.gpu_c.specs.Status.{IsOneOf};
 ghost use Rattle.gpu_c.specs.MemoryType.{number_if};
-ghost use Rattle.gpu_c.specs.Allocator.{device_told, device_status, IsFresh, SaysNothing, IsBegun, IsDenied, IsGranted, IsDeclined, code_if, IsLive, IsFreed, IsRenamed, budget_told};
+ghost use Rattle.gpu_c.specs.Allocator.{device_told, device_status, IsFresh, SaysNothing, IsBegun, IsDenied, IsGranted, IsDeclined, code_if, IsLive, IsFreed, IsRenamed, IsWorded, budget_told};
 ghost use Rattle.gpu_c.specs.AllocatorFlags.{IsBegunByFlags, IsDeniedByFlags};
 ghost use Rattle.gpu_c.specs.AllocatorLimits.{count_if};
 ghost use Rattle.gpu_c.specs.AllocatorMoves.{IsOfPiece, IsProposed};
 ghost use Rattle.gpu_c.specs.declared.status.TheConstants.{OK, OUT_OF_MEMORY, FAILED_TO_MAP, NO_MEMORY_TYPE, INVALID, INVALID_DEVICE, NOT_LIVE, HOST_OUT_OF_MEMORY, BUDGET_EXCEEDED, DRIVER_REFUSED, NO_SUCH_TYPE, TOO_MANY_TYPES, NO_SUCH_HEAP, NO_HANDLE, IN_USE, AWAITS_ANSWER, AWAITS_NO_ANSWER};
 
 use crate::allocator::{
-    begin, free, fresh, granted, is_live, mapping_refused, refused, rename, set_budget,
+    begin, free, fresh, granted, is_live, mapping_refused, refused, rename, set_budget, set_word,
 };
 use crate::allocator_answer::budget_told;
 use crate::allocator_flags::begin_by_flags;
@@ -354,6 +354,35 @@ pub extern "C" fn pilhangko_raw_allocator_rename(
         None => NO_HANDLE,
         Some(mut kept) => {
             let status = rename(&mut kept, piece, name);
+            allocator.put(kept);
+            status
+        }
+    }
+}
+
+/// Keeps another word of the caller's with a live piece, the address of an object, say, which visits show; a new piece has the word 0.
+/// `AWAITS_ANSWER` where a question is open, else `NOT_LIVE`.
+#[unsafe(no_mangle)]
+pub extern "C" fn pilhangko_raw_allocator_set_word(
+    allocator: &mut AllocatorHandle,
+    alloc: Global,
+    piece: &AllocatorPiece,
+    word: u64,
+) -> u32
+    ensures set { result ≡ status.ok → Changes allocator.old.value allocator.new.value
+        (λ old new. IsWorded old piece.now word new) }
+    ensures no_handle { (result ≡ status.no_handle) ↔ (allocator.old.value ≡ None) }
+    ensures awaits_answer { (result ≡ status.awaits_answer)
+        ↔ IsSomeAnd allocator.old.value (λ s. IsSome s.requests.awaited) }
+    ensures not_live { (result ≡ status.not_live) ↔ IsSomeAnd allocator.old.value
+        (λ s. (s.requests.awaited ≡ None) × (IsLive s piece.now → ⊥)) }
+    ensures statuses { IsOneOf result (status.ok ∷ status.no_handle ∷ status.awaits_answer ∷ status.not_live ∷ []) }
+    ensures refused { result ≢ status.ok → allocator.new.value ≡ allocator.old.value }
+{
+    match allocator.take(alloc) {
+        None => NO_HANDLE,
+        Some(mut kept) => {
+            let status = set_word(&mut kept, piece, word);
             allocator.put(kept);
             status
         }

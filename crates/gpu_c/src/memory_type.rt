@@ -7,7 +7,7 @@ ghost use Rattle.gpu_core.specs.TypeReport.{pieces_in, statistics_in};
 ghost use Rattle.gpu_c.specs.Status as status;
 ghost use Rattle.gpu_c.specs.Request.{IsServed};
 ghost use Rattle.gpu_c.specs.Status.{IsOneOf};
-ghost use Rattle.gpu_c.specs.MemoryType.{AwaitingState, fresh_memory_type, memory_piece, no_memory_piece, memory_block, number_if, IsLiveIn, Prepares, IsIdleAndServed, IsTooLarge, IsPastBudget, InstallsAwaited, Abandons, FreesPiece, NamesMemory, statistics_of, sizes_of, block_counts};
+ghost use Rattle.gpu_c.specs.MemoryType.{AwaitingState, fresh_memory_type, memory_piece, no_memory_piece, memory_block, number_if, IsLiveIn, Prepares, IsIdleAndServed, IsTooLarge, IsPastBudget, InstallsAwaited, Abandons, FreesPiece, NamesMemory, SetsWord, statistics_of, sizes_of, block_counts};
 ghost use Rattle.gpu_c.specs.Visit.{piece_view, piece_in_from, pieces_in_from, ShowsPieces, ShowsNames, ShowsName};
 ghost use Rattle.gpu_c.specs.declared.status.TheConstants.{OK, OUT_OF_MEMORY, INVALID, NOT_LIVE, HOST_OUT_OF_MEMORY, BUDGET_EXCEEDED, AWAITS_BLOCK, AWAITS_NO_BLOCK};
 
@@ -294,6 +294,28 @@ impl AwaitingType {
                     Ok(_) => OK,
                 }
             }
+        }
+    }
+
+    /// Keeps another word of the caller's with a piece.
+    pub fn set_word(&mut self, piece: &MemoryPiece, word: u64) -> u32
+        ensures set { result ≡ status.ok → SetsWord self.old piece.now word self.new }
+        ensures awaits_block { (result ≡ status.awaits_block) ↔ IsSome self.old.awaited }
+        ensures not_live { (result ≡ status.not_live)
+            ↔ (self.old.awaited ≡ None) × (IsLiveIn self.old piece.now → ⊥) }
+        ensures statuses { IsOneOf result (status.ok ∷ status.awaits_block ∷ status.not_live ∷ []) }
+        ensures refused { result ≢ status.ok → self.new ≡ self.old }
+    {
+        match &self.awaited {
+            Some(_) => return AWAITS_BLOCK,
+            None => {}
+        }
+        let Some(piece) = named_piece(piece) else {
+            return NOT_LIVE;
+        };
+        match self.memory_type.set_word(&piece, word) {
+            Ok(()) => OK,
+            Err(_error) => NOT_LIVE,
         }
     }
 

@@ -10,7 +10,7 @@ ghost use Rattle.gpu_c.specs.Handle.{Changes};
 ghost use Rattle.gpu_c.specs.Status as status;
 ghost use Rattle.gpu_c.specs.Request.{IsServed};
 ghost use Rattle.gpu_c.specs.Status.{IsOneOf};
-ghost use Rattle.gpu_c.specs.MemoryType.{fresh_memory_type, memory_block, number_if, IsLiveIn, Prepares, IsIdleAndServed, IsTooLarge, IsPastBudget, InstallsAwaited, Abandons, FreesPiece, NamesMemory, statistics_of, block_counts};
+ghost use Rattle.gpu_c.specs.MemoryType.{fresh_memory_type, memory_block, number_if, IsLiveIn, Prepares, IsIdleAndServed, IsTooLarge, IsPastBudget, InstallsAwaited, Abandons, FreesPiece, NamesMemory, SetsWord, statistics_of, block_counts};
 ghost use Rattle.gpu_c.specs.Visit.{piece_view, piece_in_from, pieces_in_from, ShowsPieces, ShowsNames, ShowsName};
 ghost use Rattle.gpu_c.specs.declared.status.TheConstants.{OK, OUT_OF_MEMORY, INVALID, NOT_LIVE, HOST_OUT_OF_MEMORY, BUDGET_EXCEEDED, NO_HANDLE, IN_USE, AWAITS_BLOCK, AWAITS_NO_BLOCK};
 
@@ -217,6 +217,35 @@ pub extern "C" fn pilhangko_raw_memory_type_rename(
         None => NO_HANDLE,
         Some(mut kept) => {
             let status = kept.rename(piece, name);
+            memory_type.put(kept);
+            status
+        }
+    }
+}
+
+/// Keeps another word of the caller's with a live piece, the address of an object, say, which visits show; a new piece has the word 0.
+/// `AWAITS_BLOCK` where a block is awaited, else `NOT_LIVE`.
+#[unsafe(no_mangle)]
+pub extern "C" fn pilhangko_raw_memory_type_set_word(
+    memory_type: &mut MemoryTypeHandle,
+    alloc: Global,
+    piece: &MemoryPiece,
+    word: u64,
+) -> u32
+    ensures set { result ≡ status.ok → Changes memory_type.old.value memory_type.new.value
+        (λ old new. SetsWord old piece.now word new) }
+    ensures no_handle { (result ≡ status.no_handle) ↔ (memory_type.old.value ≡ None) }
+    ensures awaits_block { (result ≡ status.awaits_block)
+        ↔ IsSomeAnd memory_type.old.value (λ t. IsSome t.awaited) }
+    ensures not_live { (result ≡ status.not_live) ↔ IsSomeAnd memory_type.old.value
+        (λ t. (t.awaited ≡ None) × (IsLiveIn t piece.now → ⊥)) }
+    ensures statuses { IsOneOf result (status.ok ∷ status.no_handle ∷ status.awaits_block ∷ status.not_live ∷ []) }
+    ensures refused { result ≢ status.ok → memory_type.new.value ≡ memory_type.old.value }
+{
+    match memory_type.take(alloc) {
+        None => NO_HANDLE,
+        Some(mut kept) => {
+            let status = kept.set_word(piece, word);
             memory_type.put(kept);
             status
         }

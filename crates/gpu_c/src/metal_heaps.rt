@@ -6,7 +6,7 @@ ghost use Rattle.gpu_pool.specs.Idle.{SetsBudgetIdle};
 ghost use Rattle.gpu_c.specs.Status as status;
 ghost use Rattle.gpu_c.specs.Status.{IsOneOf};
 ghost use Rattle.gpu_c.specs.MemoryType.{number_if};
-ghost use Rattle.gpu_c.specs.MetalHeaps.{IsFresh, IsAsked, IsBegun, IsDenied, IsGranted, IsDeclined, IsLive, IsFreed, IsRenamed};
+ghost use Rattle.gpu_c.specs.MetalHeaps.{IsFresh, IsAsked, IsBegun, IsDenied, IsGranted, IsDeclined, IsLive, IsFreed, IsRenamed, IsWorded};
 ghost use Rattle.gpu_c.specs.declared.status.TheConstants.{OK, OUT_OF_MEMORY, FAILED_TO_MAP, NO_MEMORY_TYPE, INVALID, INVALID_DEVICE, NOT_LIVE, HOST_OUT_OF_MEMORY, BUDGET_EXCEEDED, DRIVER_REFUSED, NO_SUCH_TYPE, AWAITS_ANSWER, AWAITS_NO_ANSWER};
 
 use crate::heaps_values::HeapsPiece;
@@ -156,6 +156,27 @@ pub fn rename(machine: &mut Machine, piece: &HeapsPiece, name: &[u8]) -> u32
                 Ok(_) => OK,
             }
         }
+    }
+}
+
+/// Keeps another word of the caller's with a piece.
+pub fn set_word(machine: &mut Machine, piece: &HeapsPiece, word: u64) -> u32
+    ensures set { result ≡ status.ok → IsWorded machine.old piece.now word machine.new }
+    ensures awaits_answer { (result ≡ status.awaits_answer) ↔ IsSome machine.old.requests.awaited }
+    ensures not_live { (result ≡ status.not_live)
+        ↔ (machine.old.requests.awaited ≡ None) × (IsLive machine.old piece.now → ⊥) }
+    ensures statuses { IsOneOf result (status.ok ∷ status.awaits_answer ∷ status.not_live ∷ []) }
+    ensures refused { result ≢ status.ok → machine.new ≡ machine.old }
+{
+    if machine.awaits_answer() {
+        return AWAITS_ANSWER;
+    }
+    let Some(named) = named_piece(piece) else {
+        return NOT_LIVE;
+    };
+    match machine.set_word(piece.memory_type, &named, word) {
+        Ok(()) => OK,
+        Err(_error) => NOT_LIVE,
     }
 }
 

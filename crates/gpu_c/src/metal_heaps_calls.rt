@@ -11,14 +11,16 @@ ghost use Rattle.gpu_c.specs.Status as status;
 ghost use Rattle.gpu_c.specs.Status.{IsOneOf};
 ghost use Rattle.gpu_c.specs.MemoryType.{number_if};
 ghost use Rattle.gpu_c.specs.Allocator.{budget_told};
-ghost use Rattle.gpu_c.specs.MetalHeaps.{IsFresh, IsAsked, IsBegun, IsDenied, IsGranted, IsDeclined, IsLive, IsFreed, IsRenamed};
+ghost use Rattle.gpu_c.specs.MetalHeaps.{IsFresh, IsAsked, IsBegun, IsDenied, IsGranted, IsDeclined, IsLive, IsFreed, IsRenamed, IsWorded};
 ghost use Rattle.gpu_c.specs.MetalHeapsMoves.{IsOfPiece, IsProposed};
 ghost use Rattle.gpu_c.specs.declared.status.TheConstants.{OK, OUT_OF_MEMORY, INVALID, NOT_LIVE, HOST_OUT_OF_MEMORY, BUDGET_EXCEEDED, DRIVER_REFUSED, NO_SUCH_TYPE, NO_HANDLE, IN_USE, AWAITS_ANSWER, AWAITS_NO_ANSWER};
 
 use crate::allocator_answer::budget_told;
 use crate::allocator_values::AllocatorBudget;
 use crate::heaps_values::HeapsPiece;
-use crate::metal_heaps::{begin, free, fresh, granted, is_live, refused, rename, set_budget};
+use crate::metal_heaps::{
+    begin, free, fresh, granted, is_live, refused, rename, set_budget, set_word,
+};
 use crate::metal_heaps_handle::MetalHeapsHandle;
 use crate::metal_heaps_moves::propose_move;
 use crate::metal_heaps_values::{
@@ -255,6 +257,35 @@ pub extern "C" fn pilhangko_raw_metal_heaps_rename(
         None => NO_HANDLE,
         Some(mut kept) => {
             let status = rename(&mut kept, piece, name);
+            heaps.put(kept);
+            status
+        }
+    }
+}
+
+/// Keeps another word of the caller's with a live piece, the address of an object, say, which visits show; a new piece has the word 0.
+/// `AWAITS_ANSWER` where a question is open, else `NOT_LIVE`.
+#[unsafe(no_mangle)]
+pub extern "C" fn pilhangko_raw_metal_heaps_set_word(
+    heaps: &mut MetalHeapsHandle,
+    alloc: Global,
+    piece: &HeapsPiece,
+    word: u64,
+) -> u32
+    ensures set { result ≡ status.ok → Changes heaps.old.value heaps.new.value
+        (λ old new. IsWorded old piece.now word new) }
+    ensures no_handle { (result ≡ status.no_handle) ↔ (heaps.old.value ≡ None) }
+    ensures awaits_answer { (result ≡ status.awaits_answer)
+        ↔ IsSomeAnd heaps.old.value (λ s. IsSome s.requests.awaited) }
+    ensures not_live { (result ≡ status.not_live) ↔ IsSomeAnd heaps.old.value
+        (λ s. (s.requests.awaited ≡ None) × (IsLive s piece.now → ⊥)) }
+    ensures statuses { IsOneOf result (status.ok ∷ status.no_handle ∷ status.awaits_answer ∷ status.not_live ∷ []) }
+    ensures refused { result ≢ status.ok → heaps.new.value ≡ heaps.old.value }
+{
+    match heaps.take(alloc) {
+        None => NO_HANDLE,
+        Some(mut kept) => {
+            let status = set_word(&mut kept, piece, word);
             heaps.put(kept);
             status
         }

@@ -7,7 +7,7 @@ ghost use Rattle.gpu_block.specs.Block.{extents_of};
 ghost use Rattle.gpu_c.specs.Status as status;
 ghost use Rattle.gpu_c.specs.Request.{IsServed};
 ghost use Rattle.gpu_c.specs.Status.{IsOneOf};
-ghost use Rattle.gpu_c.specs.VirtualBlock.{CanCreate, fresh_virtual_block, IsLivePiece, IsRefusedFor, Allocates, Frees, NamesPiece, cleared, counts_of};
+ghost use Rattle.gpu_c.specs.VirtualBlock.{CanCreate, fresh_virtual_block, IsLivePiece, IsRefusedFor, Allocates, Frees, NamesPiece, SetsWord, cleared, counts_of};
 ghost use Rattle.gpu_c.specs.Visit.{piece_view, piece_from, pieces_from, ShowsPieces, ShowsNames, ShowsName};
 ghost use Rattle.gpu_c.specs.declared.status.TheConstants.{OK, OUT_OF_MEMORY, INVALID, NOT_LIVE, HOST_OUT_OF_MEMORY};
 
@@ -149,6 +149,22 @@ impl VirtualBlock {
                 Ok(_) => OK,
             },
         }
+    }
+
+    /// Keeps another word of the caller's with a piece.
+    pub fn set_word(&mut self, piece: &VirtualPiece, word: u64) -> u32
+        ensures set { result ≡ status.ok → SetsWord self.old piece.now word self.new }
+        ensures not_live { (result ≡ status.not_live) ↔ (IsLivePiece self.old piece.now → ⊥) }
+        ensures statuses { IsOneOf result (status.ok ∷ status.not_live ∷ []) }
+        ensures refused { result ≢ status.ok → self.new ≡ self.old }
+    {
+        let Some(number) = self.number_of(piece) else {
+            return NOT_LIVE;
+        };
+        if self.sub.set_word(Some(number), word).is_err() {
+            return NOT_LIVE;
+        }
+        OK
     }
 
     /// Frees all pieces.

@@ -8,7 +8,7 @@ ghost use Rattle.gpu_c.specs.Handle.{Changes};
 ghost use Rattle.gpu_c.specs.Status as status;
 ghost use Rattle.gpu_c.specs.Request.{IsServed};
 ghost use Rattle.gpu_c.specs.Status.{IsOneOf};
-ghost use Rattle.gpu_c.specs.VirtualBlock.{CanCreate, fresh_virtual_block, IsLivePiece, IsRefusedFor, Allocates, Frees, NamesPiece, cleared, counts_of};
+ghost use Rattle.gpu_c.specs.VirtualBlock.{CanCreate, fresh_virtual_block, IsLivePiece, IsRefusedFor, Allocates, Frees, NamesPiece, SetsWord, cleared, counts_of};
 ghost use Rattle.gpu_c.specs.Visit.{piece_view, piece_from, pieces_from, ShowsPieces, ShowsNames, ShowsName};
 ghost use Rattle.gpu_c.specs.declared.status.TheConstants.{OK, OUT_OF_MEMORY, INVALID, NOT_LIVE, HOST_OUT_OF_MEMORY, NO_HANDLE, IN_USE};
 
@@ -158,6 +158,33 @@ pub extern "C" fn pilhangko_raw_virtual_block_rename(
         None => NO_HANDLE,
         Some(mut kept) => {
             let status = kept.rename(piece, name);
+            block.put(kept);
+            status
+        }
+    }
+}
+
+/// Keeps another word of the caller's with a live piece, the address of an object, say, which visits show; a new piece has the word 0.
+/// `NOT_LIVE` where the piece is none.
+#[unsafe(no_mangle)]
+pub extern "C" fn pilhangko_raw_virtual_block_set_word(
+    block: &mut VirtualBlockHandle,
+    alloc: Global,
+    piece: &VirtualPiece,
+    word: u64,
+) -> u32
+    ensures set { result ≡ status.ok → Changes block.old.value block.new.value
+        (λ old new. SetsWord old piece.now word new) }
+    ensures no_handle { (result ≡ status.no_handle) ↔ (block.old.value ≡ None) }
+    ensures not_live { (result ≡ status.not_live)
+        ↔ IsSomeAnd block.old.value (λ b. IsLivePiece b piece.now → ⊥) }
+    ensures statuses { IsOneOf result (status.ok ∷ status.no_handle ∷ status.not_live ∷ []) }
+    ensures refused { result ≢ status.ok → block.new.value ≡ block.old.value }
+{
+    match block.take(alloc) {
+        None => NO_HANDLE,
+        Some(mut kept) => {
+            let status = kept.set_word(piece, word);
             block.put(kept);
             status
         }

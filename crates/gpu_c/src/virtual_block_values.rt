@@ -54,4 +54,6 @@ pub struct PieceView {
     pub end: u64,
     /// `LINEAR` or `NON_LINEAR`.
     pub kind: u32,
+    /// The word that its caller keeps with it, 0 before one is set.
+    pub word: u64,
 }

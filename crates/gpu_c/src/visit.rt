@@ -28,6 +28,7 @@ fn view_of(piece: &LivePiece) -> PieceView
         offset: piece.offset(),
         end: piece.end(),
         kind: kind_number(piece.kind()),
+        word: piece.word(),
     }
 }
 
@@ -42,6 +43,7 @@ pub fn no_piece() -> PieceView
         offset: 0,
         end: 0,
         kind: 0,
+        word: 0,
     }
 }
 

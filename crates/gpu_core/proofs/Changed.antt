@@ -7,8 +7,9 @@ use Rattle.gpu_values.specs.Refusal.{Refusal, refusal_of}
 use Rattle.gpu_values.specs.Sizes.{Sizes}
 use Rattle.gpu_values.specs.declared.error.AllocationError.{AllocationError}
 use Rattle.gpu_values.specs.declared.error.AllocationError.TheVariants as errors
+use Rattle.gpu_block_pieces.specs.Changes.{Said}
 use Rattle.gpu_core.specs.TypeState.{TypeState, Slot, slot_at, capacity_of}
-use Rattle.gpu_core.specs.TypeRelease.{has_others, ReleasesPiece, RenamesPiece, IsLive, IsNameRefusal}
+use Rattle.gpu_core.specs.TypeRelease.{has_others, ReleasesPiece, RelabelsPiece, IsLive, IsNameRefusal}
 use Rattle.gpu_core.specs.TypeTake.{Pending, Installs, asked, NeedsBlock}
 use Rattle.gpu_core.specs.TypePrepare.{IsPrepared}
 use Rattle.gpu_core.specs.declared.piece.Piece.{Piece}
@@ -17,7 +18,7 @@ use Rattle.gpu_core.specs.declared.memory_type.Prepared.TheVariants as prepared
 use Rattle.gpu_core.specs.declared.piece.Request as type_requests
 use Rattle.gpu_core.specs.Blocks.{slots_at, total_capacity}
 use Rattle.gpu_core.specs.Release.{ReleasesAt}
-use Rattle.gpu_core.specs.Rename.{IsRenamed, IsNotNamed}
+use Rattle.gpu_core.specs.Rename.{IsRelabelled, IsNotNamed}
 use Rattle.gpu_core.specs.Requests.{refusal_of_need, PreparesAt, NeedsTooMuch, IsPrepareRefusal, InstallsAt}
 use Rattle.gpu_core.specs.Types.{Types, slots_of, type_of}
 use Rattle.gpu_core.specs.Budgets.{block_refusal}
@@ -65,15 +66,15 @@ module _ {H : Type 0} (types : Types H) (i : ℕ) (old new : TypeState H) (at : 
   }
   released p (Err e) h = tt
 
-  pub renamed : (eq : H → H → Bool) (p : Piece H) (name : List ℕ) (r : Result (Unit {0}) AllocationError) → OnOk r (IsLive eq old.slots p) → OnOk r (RenamesPiece old.slots p name new.slots)
-      → OnOk r (IsRenamed eq i p name (slots_of types) (slots_of (slice_set types i new)))
-  renamed eq p name (Ok _) live h = record {
+  pub renamed : (eq : H → H → Bool) (p : Piece H) (said : Said) (r : Result (Unit {0}) AllocationError) → OnOk r (IsLive eq old.slots p) → OnOk r (RelabelsPiece old.slots p said new.slots)
+      → OnOk r (IsRelabelled eq i p said (slots_of types) (slots_of (slice_set types i new)))
+  renamed eq p said (Ok _) live h = record {
     live = subst (λ (ss : List (Option (Slot H))). IsLive eq ss p) here live;
     left = new.slots;
-    renames = subst (λ (ss : List (Option (Slot H))). RenamesPiece ss p name new.slots) here h;
+    renames = subst (λ (ss : List (Option (Slot H))). RelabelsPiece ss p said new.slots) here h;
     slots = slots_set types i new;
   }
-  renamed eq p name (Err e) live h = tt
+  renamed eq p said (Err e) live h = tt
 
   pub installed : (is_dedicated : Bool) (ready : Pending) (handle : H) (p : Piece H) → Installs old.slots is_dedicated ready handle p new.slots
       → InstallsAt i (slots_of types) is_dedicated ready handle p (slots_of (slice_set types i new))

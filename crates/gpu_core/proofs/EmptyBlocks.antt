@@ -4,13 +4,14 @@ use Rattle.std.specs.Prelude.{Contains, IsSome}
 use Rattle.std.specs.Option.{option_map, option_to_list}
 use Rattle.std.specs.Int.NonZero.{non_zero_u64_get}
 use Rattle.std.proofs.lemmas.Bool.{false≢true, cases_eq}
+use Rattle.gpu_block_pieces.specs.Changes.{Said, relabel}
 use Rattle.gpu_block_pieces.specs.FreeList.{Extent}
-use Rattle.gpu_block.specs.Dedicated.{held_extents, renamed, whole_extent}
+use Rattle.gpu_block.specs.Dedicated.{held_extents, whole_extent}
 use Rattle.gpu_block_pieces.specs.Request.{Request}
-use Rattle.gpu_block.specs.Block.{Block, free_list, dedicated, extents_of, is_shared, HoldsPiece, TakesIn, ReleasesIn, RenamesIn, IsSoundBlock}
+use Rattle.gpu_block.specs.Block.{Block, free_list, dedicated, extents_of, is_shared, HoldsPiece, TakesIn, ReleasesIn, RelabelsIn, IsSoundBlock}
 use Rattle.gpu_core.specs.TypeState.{Slot, slot_at, slots_sum, shared_in, shared_count, HasEmptyBlock, IsOneGap, HasOneGap, KeepsOneEmptyAtMost}
 use Rattle.gpu_core.specs.TypeTake.{PreparesPiece}
-use Rattle.gpu_core.specs.TypeRelease.{Goes, SlotReleases, ReleasesPiece, SlotRenames, RenamesPiece}
+use Rattle.gpu_core.specs.TypeRelease.{Goes, SlotReleases, ReleasesPiece, SlotRelabels, RelabelsPiece}
 use Rattle.gpu_core.specs.Slots.{AreSound, SlotIsSound}
 use Rattle.gpu_core.specs.declared.piece.Piece.{Piece}
 use Rattle.gpu_block_pieces.proofs.Empty.{empty_gap, empty_only}
@@ -38,15 +39,15 @@ map_some : {X Y : Type 0} (f : X → Y) (xs : List X) → map f xs ≡ [] → xs
 map_some f [] e = refl
 map_some f (x ∷ xs) e = absurd (cc)
 
-named_some : (o : Option Extent) (name : List ℕ) → IsSome o → option_to_list (option_map (renamed name) o) ≡ [] → ⊥
-named_some None name some e = absurd (false≢true some)
-named_some (Some x) name some e = absurd (cc)
+named_some : (o : Option Extent) (said : Said) → IsSome o → option_to_list (option_map (relabel said) o) ≡ [] → ⊥
+named_some None said some e = absurd (false≢true some)
+named_some (Some x) said some e = absurd (cc)
 
-renames_some : (old : Block) (n : ℕ) (name : List ℕ) (new : Block) → RenamesIn old n name new → extents_of new ≡ [] → ⊥
-renames_some (free_list old) n name (free_list new) t e = not_empty old.extents t.held.0 t.held.1 (map_some _ old.extents (sym t.extents ∙ e))
-renames_some (free_list old) n name (dedicated new) t e = t
-renames_some (dedicated old) n name (free_list new) t e = t
-renames_some (dedicated old) n name (dedicated new) t e = named_some old.piece name t.0 (sym (ap held_extents t.2) ∙ e)
+renames_some : (old : Block) (n : ℕ) (said : Said) (new : Block) → RelabelsIn old n said new → extents_of new ≡ [] → ⊥
+renames_some (free_list old) n said (free_list new) t e = not_empty old.extents t.held.0 t.held.1 (map_some _ old.extents (sym t.extents ∙ e))
+renames_some (free_list old) n said (dedicated new) t e = t
+renames_some (dedicated old) n said (free_list new) t e = t
+renames_some (dedicated old) n said (dedicated new) t e = named_some old.piece said t.0 (sym (ap held_extents t.2) ∙ e)
 
 -- ---- a block that is emptied
 
@@ -136,17 +137,17 @@ prepared_empty {H = H} slots r p new kept t =
     one_empty_set slots p.slot t.slot (Some after) new kept t.at t.slots
     (holds_some t.after (non_zero_u64_get p.chunk_id) p.offset r.size (takes_holds t.slot.block r p.offset (non_zero_u64_get p.chunk_id) t.after t.takes))
 
-renamed_slot : {H : Type 0} (slots : List (Option (Slot H))) (i n : ℕ) (name : List ℕ) (s q : Option (Slot H)) (new : List (Option (Slot H))) → KeepsOneEmptyAtMost slots → slot_at slots i ≡ s →
-    SlotRenames n name s q → new ≡ slice_set slots i q → KeepsOneEmptyAtMost new
-renamed_slot slots i n name None q new kept at t e = absurd t
-renamed_slot slots i n name (Some s) None new kept at t e = absurd t
-renamed_slot slots i n name (Some s) (Some q) new kept at t e =
-    one_empty_set slots i s (Some q) new kept at e (renames_some s.block n name q.block t.1)
+renamed_slot : {H : Type 0} (slots : List (Option (Slot H))) (i n : ℕ) (said : Said) (s q : Option (Slot H)) (new : List (Option (Slot H))) → KeepsOneEmptyAtMost slots → slot_at slots i ≡ s →
+    SlotRelabels n said s q → new ≡ slice_set slots i q → KeepsOneEmptyAtMost new
+renamed_slot slots i n said None q new kept at t e = absurd t
+renamed_slot slots i n said (Some s) None new kept at t e = absurd t
+renamed_slot slots i n said (Some s) (Some q) new kept at t e =
+    one_empty_set slots i s (Some q) new kept at e (renames_some s.block n said q.block t.1)
 
-pub renamed_empty : {H : Type 0} (slots : List (Option (Slot H))) (p : Piece H) (name : List ℕ) (new : List (Option (Slot H))) → KeepsOneEmptyAtMost slots → RenamesPiece slots p name new →
+pub renamed_empty : {H : Type 0} (slots : List (Option (Slot H))) (p : Piece H) (said : Said) (new : List (Option (Slot H))) → KeepsOneEmptyAtMost slots → RelabelsPiece slots p said new →
     KeepsOneEmptyAtMost new
-renamed_empty slots p name new kept t =
-    renamed_slot slots p.slot (non_zero_u64_get p.chunk_id) name (slot_at slots p.slot) t.slot new kept refl t.renames t.slots
+renamed_empty slots p said new kept t =
+    renamed_slot slots p.slot (non_zero_u64_get p.chunk_id) said (slot_at slots p.slot) t.slot new kept refl t.renames t.slots
 
 -- an emptied block that stays is the only shared one
 module _ {H : Type 0} (slots : List (Option (Slot H))) (i n : ℕ) (several : Type 0) (s q : Slot H) (kept : KeepsOneEmptyAtMost slots) (sound : IsSoundBlock s.block) (at : slot_at slots i ≡ Some s)

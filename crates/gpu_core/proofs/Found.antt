@@ -5,9 +5,10 @@ use Rattle.std.proofs.lemmas.Bool.{false≢true}
 use Rattle.std.specs.Int.NonZero.{non_zero_u64_get}
 use Rattle.std.proofs.lemmas.List.Elements.{All-nil, All-cons, All-contains}
 use Rattle.std.specs.Option.{option_to_list}
+use Rattle.gpu_block_pieces.specs.Changes.{Said}
 use Rattle.gpu_block_pieces.specs.FreeList.{Extent}
 use Rattle.gpu_block.specs.Dedicated.{Dedicated, held_extents, IsWhole}
-use Rattle.gpu_block.specs.Block.{Block, free_list, dedicated, extents_of, IsSoundBlock, HoldsPiece, ReleasesIn, RenamesIn}
+use Rattle.gpu_block.specs.Block.{Block, free_list, dedicated, extents_of, IsSoundBlock, HoldsPiece, ReleasesIn, RelabelsIn}
 use Rattle.gpu_core.specs.TypeState.{Slot}
 use Rattle.gpu_core.specs.TypeRelease.{SlotHolds}
 use Rattle.gpu_core.specs.Slots.{Finds}
@@ -50,11 +51,11 @@ released_held (free_list b) n (dedicated after) sound t none = t
 released_held (dedicated b) n (free_list after) sound t none = t
 released_held (dedicated b) n (dedicated after) sound t none = dedicated_held b n sound t.0 t.1 none
 
-renamed_held : (b : Block) (n : ℕ) (name : List ℕ) (after : Block) → IsSoundBlock b → RenamesIn b n name after → ((x : Extent) → Contains (extents_of b) x → x.chunk_id ≡ n → ⊥) → ⊥
-renamed_held (free_list b) n name (free_list after) sound t none = none t.held.0 t.held.1 t.held.2
-renamed_held (free_list b) n name (dedicated after) sound t none = t
-renamed_held (dedicated b) n name (free_list after) sound t none = t
-renamed_held (dedicated b) n name (dedicated after) sound t none = dedicated_held b n sound t.0 t.1 none
+renamed_held : (b : Block) (n : ℕ) (said : Said) (after : Block) → IsSoundBlock b → RelabelsIn b n said after → ((x : Extent) → Contains (extents_of b) x → x.chunk_id ≡ n → ⊥) → ⊥
+renamed_held (free_list b) n said (free_list after) sound t none = none t.held.0 t.held.1 t.held.2
+renamed_held (free_list b) n said (dedicated after) sound t none = t
+renamed_held (dedicated b) n said (free_list after) sound t none = t
+renamed_held (dedicated b) n said (dedicated after) sound t none = dedicated_held b n sound t.0 t.1 none
 
 -- what succeeds under a number that was looked for, and not found to be another's, was the piece's own
 pub released_live : {H : Type 0} (eq : H → H → Bool) (p : Piece H) (s : Slot H) (f : Finding) (after : Block) → Finds eq p s f → (f ≡ findings.Other → ⊥) → IsSoundBlock s.block → ReleasesIn s.block
@@ -63,11 +64,11 @@ released_live eq p s findings.Piece after h other sound t = h
 released_live eq p s findings.Other after h other sound t = absurd (other refl)
 released_live eq p s findings.Nothing after h other sound t = absurd (released_held s.block (non_zero_u64_get p.chunk_id) after sound t h)
 
-pub renamed_live : {H : Type 0} (eq : H → H → Bool) (p : Piece H) (s : Slot H) (f : Finding) (name : List ℕ) (after : Block) → Finds eq p s f → (f ≡ findings.Other → ⊥) → IsSoundBlock s.block →
-    RenamesIn s.block (non_zero_u64_get p.chunk_id) name after → SlotHolds eq p (Some s)
-renamed_live eq p s findings.Piece name after h other sound t = h
-renamed_live eq p s findings.Other name after h other sound t = absurd (other refl)
-renamed_live eq p s findings.Nothing name after h other sound t = absurd (renamed_held s.block (non_zero_u64_get p.chunk_id) name after sound t h)
+pub renamed_live : {H : Type 0} (eq : H → H → Bool) (p : Piece H) (s : Slot H) (f : Finding) (said : Said) (after : Block) → Finds eq p s f → (f ≡ findings.Other → ⊥) → IsSoundBlock s.block →
+    RelabelsIn s.block (non_zero_u64_get p.chunk_id) said after → SlotHolds eq p (Some s)
+renamed_live eq p s findings.Piece said after h other sound t = h
+renamed_live eq p s findings.Other said after h other sound t = absurd (other refl)
+renamed_live eq p s findings.Nothing said after h other sound t = absurd (renamed_held s.block (non_zero_u64_get p.chunk_id) said after sound t h)
 
 -- a look that doesn't find the piece
 pub not_found : {H : Type 0} (eq : H → H → Bool) (p : Piece H) (s : Slot H) (f : Finding) → Finds eq p s f → (f ≡ findings.Piece → ⊥) → SlotHolds eq p (Some s) → ⊥

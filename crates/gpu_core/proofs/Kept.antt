@@ -3,11 +3,12 @@ use Rattle.std.proofs.Common.{◌≡◌, ℕ, ◌+◌, ◌-◌, ◌≤◌, Bool,
 use Rattle.std.specs.Prelude.{IsTrue, nat_lt}
 use Rattle.std.proofs.lemmas.Bool.{lt-ltb}
 use Rattle.std.specs.Int.NonZero.{non_zero_u64_get}
+use Rattle.gpu_block_pieces.specs.Changes.{Said}
 use Rattle.gpu_block_pieces.specs.Request.{Request}
-use Rattle.gpu_block.specs.Block.{Block, free_list, dedicated, extents_of, size_of, is_shared, TakesIn, RenamesIn}
+use Rattle.gpu_block.specs.Block.{Block, free_list, dedicated, extents_of, size_of, is_shared, TakesIn, RelabelsIn}
 use Rattle.gpu_core.specs.TypeState.{Slot, slot_at, slots_sum, slot_size, shared_in, capacity_of, shared_count, KeepsOneEmptyAtMost}
 use Rattle.gpu_core.specs.TypeTake.{PreparesPiece, new_slot, with_block}
-use Rattle.gpu_core.specs.TypeRelease.{ReleasesPiece, RenamesPiece, SlotRenames}
+use Rattle.gpu_core.specs.TypeRelease.{ReleasesPiece, RelabelsPiece, SlotRelabels}
 use Rattle.gpu_core.specs.TypeInvariant.{AreKept}
 use Rattle.gpu_core.specs.Slots.{AreSound, SlotIsSound}
 use Rattle.gpu_core.specs.declared.piece.Piece.{Piece}
@@ -22,11 +23,11 @@ takes_same (free_list old) r o n (dedicated new) t = absurd t
 takes_same (dedicated old) r o n (free_list new) t = absurd t
 takes_same (dedicated old) r o n (dedicated new) t = (ap (λ d. d.size) t.4, refl)
 
-renames_same : (old : Block) (n : ℕ) (name : List ℕ) (new : Block) → RenamesIn old n name new → (size_of new ≡ size_of old) × (is_shared new ≡ is_shared old)
-renames_same (free_list old) n name (free_list new) t = (t.same.0, refl)
-renames_same (free_list old) n name (dedicated new) t = absurd t
-renames_same (dedicated old) n name (free_list new) t = absurd t
-renames_same (dedicated old) n name (dedicated new) t = (ap (λ d. d.size) t.2, refl)
+renames_same : (old : Block) (n : ℕ) (said : Said) (new : Block) → RelabelsIn old n said new → (size_of new ≡ size_of old) × (is_shared new ≡ is_shared old)
+renames_same (free_list old) n said (free_list new) t = (t.same.0, refl)
+renames_same (free_list old) n said (dedicated new) t = absurd t
+renames_same (dedicated old) n said (free_list new) t = absurd t
+renames_same (dedicated old) n said (dedicated new) t = (ap (λ d. d.size) t.2, refl)
 
 -- a slot is replaced by one that counts the same
 sum_same : {H : Type 0} (f : Option (Slot H) → ℕ) (slots : List (Option (Slot H))) (i : ℕ) (s : Slot H) (new : Option (Slot H)) → slot_at slots i ≡ Some s → f new ≡ f (Some s) → slots_sum f
@@ -68,12 +69,12 @@ freed_kept g slots capacity shared p went new size more kept sound t c s =
       empty = freed_empty g slots (IsTrue (nat_lt 1 shared)) p went new kept.sound kept.empty (λ two. lt-ltb 1 shared (omega arith)) t;
     }
 
-renamed_slots : {H : Type 0} (g : ℕ) (slots : List (Option (Slot H))) (capacity shared i n : ℕ) (name : List ℕ) (s : Option (Slot H)) (q : Option (Slot H)) (new : List (Option (Slot H))) → AreKept g
-    slots capacity shared → AreSound g new → KeepsOneEmptyAtMost new → slot_at slots i ≡ s → SlotRenames n name s q → new ≡ slice_set slots i q → AreKept g new capacity shared
-renamed_slots g slots capacity shared i n name None q new kept sound empty at t e = absurd t
-renamed_slots g slots capacity shared i n name (Some s) None new kept sound empty at t e = absurd t
-renamed_slots g slots capacity shared i n name (Some s) (Some q) new kept sound empty at t e =
-    let same = renames_same s.block n name q.block t.1 in
+renamed_slots : {H : Type 0} (g : ℕ) (slots : List (Option (Slot H))) (capacity shared i n : ℕ) (said : Said) (s : Option (Slot H)) (q : Option (Slot H)) (new : List (Option (Slot H))) → AreKept g
+    slots capacity shared → AreSound g new → KeepsOneEmptyAtMost new → slot_at slots i ≡ s → SlotRelabels n said s q → new ≡ slice_set slots i q → AreKept g new capacity shared
+renamed_slots g slots capacity shared i n said None q new kept sound empty at t e = absurd t
+renamed_slots g slots capacity shared i n said (Some s) None new kept sound empty at t e = absurd t
+renamed_slots g slots capacity shared i n said (Some s) (Some q) new kept sound empty at t e =
+    let same = renames_same s.block n said q.block t.1 in
     record {
       pages = kept.pages;
       sound = sound;
@@ -82,10 +83,10 @@ renamed_slots g slots capacity shared i n name (Some s) (Some q) new kept sound 
       empty = empty;
     }
 
-pub renamed_kept : {H : Type 0} (g : ℕ) (slots : List (Option (Slot H))) (capacity shared : ℕ) (p : Piece H) (name : List ℕ) (new : List (Option (Slot H))) → AreKept g slots capacity shared →
-    AreSound g new → RenamesPiece slots p name new → AreKept g new capacity shared
-renamed_kept g slots capacity shared p name new kept sound t =
-    renamed_slots g slots capacity shared p.slot (non_zero_u64_get p.chunk_id) name (slot_at slots p.slot) t.slot new kept sound (renamed_empty slots p name new kept.empty t) refl t.renames t.slots
+pub renamed_kept : {H : Type 0} (g : ℕ) (slots : List (Option (Slot H))) (capacity shared : ℕ) (p : Piece H) (said : Said) (new : List (Option (Slot H))) → AreKept g slots capacity shared →
+    AreSound g new → RelabelsPiece slots p said new → AreKept g new capacity shared
+renamed_kept g slots capacity shared p said new kept sound t =
+    renamed_slots g slots capacity shared p.slot (non_zero_u64_get p.chunk_id) said (slot_at slots p.slot) t.slot new kept sound (renamed_empty slots p said new kept.empty t) refl t.renames t.slots
 
 -- ---- a new block
 

@@ -7,18 +7,19 @@ use Rattle.std.specs.Prelude.{Contains, IfSome}
 use Rattle.std.specs.Option.{option_to_list}
 use Rattle.std.specs.Int.NonZero.{non_zero_u64_get}
 use Rattle.std.specs.declared.num.NonZeroU64.{NonZeroU64}
+use Rattle.gpu_block_pieces.specs.Changes.{Said}
 use Rattle.gpu_block_pieces.specs.FreeList.{Extent}
 use Rattle.gpu_block_pieces.specs.Request.{Request}
 use Rattle.gpu_values.specs.Sizes.{Sizes}
 use Rattle.gpu_block.specs.Block.{Block, free_list, dedicated, is_shared, TakesIn, IsSoundBlock, IsReleaseRefusalIn, IsRenameRefusalIn, extents_of}
 use Rattle.gpu_core.specs.TypeState.{Slot, TypeState, slot_at}
 use Rattle.gpu_core.specs.TypeTake.{PreparesPiece, CannotServe, BlockCannotServe, Pending, NeedsBlock, Installs, has_dedicated_block, fresh_block, next_shared_size}
-use Rattle.gpu_core.specs.TypeRelease.{IsFreeRefusal, IsNameRefusal, Goes, SlotReleases, ReleasesPiece, SlotRenames, RenamesPiece}
+use Rattle.gpu_core.specs.TypeRelease.{IsFreeRefusal, IsNameRefusal, Goes, SlotReleases, ReleasesPiece, SlotRelabels, RelabelsPiece}
 use Rattle.gpu_values.specs.Refusal.{Refusal, host_out_of_memory}
 use Rattle.gpu_core.specs.Slots.{AreSound, SlotIsSound}
 use Rattle.gpu_core.proofs.Found.{only_one}
 use Rattle.gpu_core.specs.declared.piece.Piece.{Piece}
-use Rattle.gpu_block.proofs.Blocks.{take_once_in, release_once_in, rename_once_in}
+use Rattle.gpu_block.proofs.Blocks.{take_once_in, release_once_in, relabel_once_in}
 use Rattle.gpu_block_pieces.proofs.OneOutcome.{takes_or_none}
 
 numbers_alike : (a b : NonZeroU64) → non_zero_u64_get a ≡ non_zero_u64_get b → a ≡ b
@@ -137,17 +138,17 @@ released_once g several old p went goes new next sound t u =
 
 -- ---- a piece has another name
 
-slot_renamed_once : {H : Type 0} (n : ℕ) (name : List ℕ) (old new next : Option (Slot H)) → SlotRenames n name old new → SlotRenames n name old next → new ≡ next
-slot_renamed_once n name None new next t u = absurd t
-slot_renamed_once n name (Some old) (Some new) (Some next) t u =
-    ap Some (slots_alike new next (t.0 ∙ sym u.0) (rename_once_in old.block n name new.block next.block t.1 u.1))
-slot_renamed_once n name (Some old) (Some new) None t u = absurd u
-slot_renamed_once n name (Some old) None next t u = absurd t
+slot_renamed_once : {H : Type 0} (n : ℕ) (said : Said) (old new next : Option (Slot H)) → SlotRelabels n said old new → SlotRelabels n said old next → new ≡ next
+slot_renamed_once n said None new next t u = absurd t
+slot_renamed_once n said (Some old) (Some new) (Some next) t u =
+    ap Some (slots_alike new next (t.0 ∙ sym u.0) (relabel_once_in old.block n said new.block next.block t.1 u.1))
+slot_renamed_once n said (Some old) (Some new) None t u = absurd u
+slot_renamed_once n said (Some old) None next t u = absurd t
 
-pub renamed_once : {H : Type 0} (old : List (Option (Slot H))) (p : Piece H) (name : List ℕ) (new next : List (Option (Slot H))) → RenamesPiece old p name new → RenamesPiece old p name next → new ≡
+pub renamed_once : {H : Type 0} (old : List (Option (Slot H))) (p : Piece H) (said : Said) (new next : List (Option (Slot H))) → RelabelsPiece old p said new → RelabelsPiece old p said next → new ≡
     next
-renamed_once old p name new next t u =
-    t.slots ∙ (ap (slice_set old p.slot) (slot_renamed_once (non_zero_u64_get p.chunk_id) name (slot_at old p.slot) t.slot u.slot t.renames u.renames) ∙ sym u.slots)
+renamed_once old p said new next t u =
+    t.slots ∙ (ap (slice_set old p.slot) (slot_renamed_once (non_zero_u64_get p.chunk_id) said (slot_at old p.slot) t.slot u.slot t.renames u.renames) ∙ sym u.slots)
 
 -- ---- why a piece isn't given back
 

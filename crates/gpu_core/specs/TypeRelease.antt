@@ -3,8 +3,9 @@ use Rattle.std.specs.Prelude.{◌≡◌, ℕ, ◌⊎◌, Bool, true, false, List
 use Rattle.std.specs.List.{slice_set}
 use Rattle.std.specs.Int.NonZero.{non_zero_u64_get}
 use Rattle.gpu_block_pieces.specs.FreeList.{Extent}
+use Rattle.gpu_block_pieces.specs.Changes.{Said, named, worded}
 use Rattle.gpu_values.specs.Refusal.{Refusal, internal}
-use Rattle.gpu_block.specs.Block.{Block, extents_of, is_shared, HoldsPiece, ReleasesIn, IsReleaseRefusalIn, RenamesIn, IsRenameRefusalIn}
+use Rattle.gpu_block.specs.Block.{Block, extents_of, is_shared, HoldsPiece, ReleasesIn, IsReleaseRefusalIn, RelabelsIn, IsRenameRefusalIn}
 use Rattle.gpu_core.specs.TypeState.{Slot, slot_at, shared_count}
 use Rattle.gpu_core.specs.declared.piece.Piece.{Piece}
 
@@ -28,7 +29,7 @@ abbrev pub IsFreeRefusal : {H : Type 0} → (H → H → Bool) → Piece H → O
 IsFreeRefusal eq p None refusal = refusal ≡ internal (codes "Memory block must be Some.") None
 IsFreeRefusal eq p (Some s) refusal = IsReleaseRefusalIn s.block (Some p.chunk_id) refusal ⊎ IsOther eq p s refusal
 
--- why a piece isn't named: the same, or host memory was refused
+-- why a piece gets no other name or word: the same, or host memory was refused, which a word never needs
 abbrev pub IsNameRefusal : {H : Type 0} → (H → H → Bool) → Piece H → Option (Slot H) → Refusal → Type 0
 IsNameRefusal eq p None refusal = refusal ≡ internal (codes "Memory block must be Some.") None
 IsNameRefusal eq p (Some s) refusal = IsRenameRefusalIn s.block (Some p.chunk_id) refusal ⊎ IsOther eq p s refusal
@@ -53,13 +54,19 @@ pub record ReleasesPiece {H : Type 0} (several : Type 0) (old : List (Option (Sl
   pub releases : SlotReleases several (non_zero_u64_get p.chunk_id) (slot_at old p.slot) gone slot
   pub slots : new ≡ slice_set old p.slot slot
 
-abbrev pub SlotRenames : {H : Type 0} → ℕ → List ℕ → Option (Slot H) → Option (Slot H) → Type 0
-SlotRenames chunk_id name (Some old) (Some new) = (new.handle ≡ old.handle) × RenamesIn old.block chunk_id name new.block
-SlotRenames chunk_id name (Some old) None = ⊥
-SlotRenames chunk_id name None new = ⊥
+abbrev pub SlotRelabels : {H : Type 0} → ℕ → Said → Option (Slot H) → Option (Slot H) → Type 0
+SlotRelabels chunk_id said (Some old) (Some new) = (new.handle ≡ old.handle) × RelabelsIn old.block chunk_id said new.block
+SlotRelabels chunk_id said (Some old) None = ⊥
+SlotRelabels chunk_id said None new = ⊥
 
--- the piece has another name, and nothing else changes
-pub record RenamesPiece {H : Type 0} (old : List (Option (Slot H))) (p : Piece H) (name : List ℕ) (new : List (Option (Slot H))) : Type 0 where
+-- the piece has another name or word, and nothing else changes
+pub record RelabelsPiece {H : Type 0} (old : List (Option (Slot H))) (p : Piece H) (said : Said) (new : List (Option (Slot H))) : Type 0 where
   pub slot : Option (Slot H)
-  pub renames : SlotRenames (non_zero_u64_get p.chunk_id) name (slot_at old p.slot) slot
+  pub renames : SlotRelabels (non_zero_u64_get p.chunk_id) said (slot_at old p.slot) slot
   pub slots : new ≡ slice_set old p.slot slot
+
+abbrev pub RenamesPiece : {H : Type 0} → List (Option (Slot H)) → Piece H → List ℕ → List (Option (Slot H)) → Type 0
+RenamesPiece old p name new = RelabelsPiece old p (named name) new
+
+abbrev pub SetsWordOf : {H : Type 0} → List (Option (Slot H)) → Piece H → ℕ → List (Option (Slot H)) → Type 0
+SetsWordOf old p word new = RelabelsPiece old p (worded word) new

@@ -11,7 +11,7 @@ use crate::slot::{Finding, LiveBlock, find};
 use crate::slots::Slots;
 use crate::statistics::count_slots;
 use crate::{Piece, Request, TypeLeaks};
-use gpu_block::SubAllocator;
+use gpu_block::{Said, SubAllocator};
 use gpu_block_pieces::{BlockStatistics, Leaks, Pieces};
 use gpu_values::{AllocationSizes, AllocationType, AllocatorReport, Result};
 use std::alloc::Global;
@@ -77,7 +77,8 @@ impl<H: Copy + Eq> MemoryType<H> {
     ghost use Rattle.gpu_core.specs.TypeTake.{asked, Installs};
     ghost use Rattle.gpu_core.specs.Slots.{AreSound};
     ghost use Rattle.gpu_core.specs.TypePrepare.{IsPrepared, CanInstall};
-    ghost use Rattle.gpu_core.specs.TypeRelease.{has_others, IsLive, IsFreeRefusal, IsNameRefusal, ReleasesPiece, RenamesPiece};
+    ghost use Rattle.gpu_block.specs.Said.{said_of, MayStarve};
+    ghost use Rattle.gpu_core.specs.TypeRelease.{has_others, IsLive, IsFreeRefusal, IsNameRefusal, ReleasesPiece, RelabelsPiece, RenamesPiece, SetsWordOf};
     ghost use Rattle.gpu_core.specs.TypeReport.{leaks_in, pieces_in, statistics_in, block_in, counted_with, nothing_counted, type_leaks, with_type};
     ghost use Rattle.gpu_block.specs.SubAllocator.{block_of};
     ghost use Rattle.std.specs.Option.{option_map};
@@ -258,7 +259,49 @@ impl<H: Copy + Eq> MemoryType<H> {
         ensures sound { AreSound self.new.granularity self.new.slots }
         ensures empty { KeepsOneEmptyAtMost self.new.slots }
     {
-        self.slots.rename(piece, name)
+        self.relabel(piece, Said::Name(name))
+    }
+
+    /// Keeps another word of the caller's with a piece. `Internal` where the piece isn't live; then nothing changes. It takes no memory.
+    pub fn set_word(&mut self, piece: &Piece<H>, word: u64) -> Result<()>
+        ensures set { OnOk result (SetsWordOf self.old.slots piece.now word self.new.slots) }
+        ensures live { OnOk result (IsLive H.eq self.old.slots piece.now) }
+        ensures dead { IfErr result (λ e. IsLive H.eq self.old.slots piece.now → ⊥) }
+        ensures no_memory { IfErr result (λ e. e ≢ HostOutOfMemory) }
+        ensures cause { IfErr result (λ e. IsNameRefusal H.eq piece.now
+            (slot_at self.old.slots piece.now.slot) (refusal_of e)) }
+        ensures refused { OnErr result (self.new ≡ self.old) }
+        ensures kind { (self.new.is_host ≡ self.old.is_host)
+            × (self.new.granularity ≡ self.old.granularity) }
+        ensures budget { self.new.budget ≡ self.old.budget }
+        ensures capacity { capacity_of self.new.slots ≡ capacity_of self.old.slots }
+        ensures sound { AreSound self.new.granularity self.new.slots }
+        ensures empty { KeepsOneEmptyAtMost self.new.slots }
+    {
+        self.relabel(piece, Said::Word(word))
+    }
+
+    /// Gives a piece another name or word: what `rename` and `set_word` share.
+    pub(crate) fn relabel(&mut self, piece: &Piece<H>, said: Said<'_>) -> Result<()>
+        ensures renamed { OnOk result (RelabelsPiece self.old.slots piece.now (said_of said.entry)
+            self.new.slots) }
+        ensures live { OnOk result (IsLive H.eq self.old.slots piece.now) }
+        ensures dead { IfErr result (λ e. e ≢ HostOutOfMemory → IsLive H.eq self.old.slots piece.now
+            → ⊥) }
+        ensures starved { IfErr result (λ e. e ≡ HostOutOfMemory
+            → IsLive H.eq self.old.slots piece.now) }
+        ensures no_memory { IfErr result (λ e. e ≡ HostOutOfMemory → MayStarve (said_of said.entry)) }
+        ensures cause { IfErr result (λ e. IsNameRefusal H.eq piece.now
+            (slot_at self.old.slots piece.now.slot) (refusal_of e)) }
+        ensures refused { OnErr result (self.new ≡ self.old) }
+        ensures kind { (self.new.is_host ≡ self.old.is_host)
+            × (self.new.granularity ≡ self.old.granularity) }
+        ensures budget { self.new.budget ≡ self.old.budget }
+        ensures capacity { capacity_of self.new.slots ≡ capacity_of self.old.slots }
+        ensures sound { AreSound self.new.granularity self.new.slots }
+        ensures empty { KeepsOneEmptyAtMost self.new.slots }
+    {
+        self.slots.relabel(piece, said)
     }
 
     /// Whether a piece is live: its slot's block is the one named, and has the piece under its number at its place.

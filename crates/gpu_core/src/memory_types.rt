@@ -13,6 +13,7 @@ mod leaks;
 mod report;
 
 use crate::{MemoryType, NeedBlock, Piece, Prepared, Request};
+use gpu_block::Said;
 use gpu_values::{
     AllocationError, AllocationSizes, AllocationType, AllocatorReport, Fault, Result,
 };
@@ -107,7 +108,8 @@ impl<H: Copy + Eq> MemoryTypes<H> {
     ghost use Rattle.gpu_core.specs.Leaks.{all_leaks};
     ghost use Rattle.gpu_core.specs.Live.{IsLiveIn};
     ghost use Rattle.gpu_core.specs.Release.{ReleasesAt, IsReleaseRefusal};
-    ghost use Rattle.gpu_core.specs.Rename.{IsNotNamed, IsRenamed};
+    ghost use Rattle.gpu_block.specs.Said.{said_of, MayStarve};
+    ghost use Rattle.gpu_core.specs.Rename.{IsNotNamed, IsNotWorded, IsRelabelled, IsRenamed, IsWorded};
     ghost use Rattle.gpu_core.specs.Reports.{whole_report};
     ghost use Rattle.gpu_core.specs.Requests.{PreparesAt, IsPrepareRefusal, InstallsAt};
     ghost use Rattle.gpu_core.specs.Types.{kinds, slots_of, type_of, MemoryTypesInvariant};
@@ -286,10 +288,42 @@ impl<H: Copy + Eq> MemoryTypes<H> {
         ensures budgets { budgets self.new ≡ budgets self.old }
         ensures kept { MemoryTypesInvariant self.new }
     {
+        self.relabel(index, piece, Said::Name(name))
+    }
+
+    /// Keeps another word of the caller's with a piece of the memory type at `index`. `Internal` where the piece isn't live; then nothing
+    /// changes. It takes no memory.
+    pub fn set_word(&mut self, index: usize, piece: &Piece<H>, word: u64) -> Result<()>
+        ensures set { OnOk result (IsWorded H.eq index piece.now word (slots_of self.old)
+            (slots_of self.new)) }
+        ensures cause { IfErr result (λ e. IsNotWorded H.eq (slots_at (slots_of self.old) index)
+            piece.now (refusal_of e)) }
+        ensures refused { OnErr result (self.new ≡ self.old) }
+        ensures others { (t : ℕ) → t ≢ index → type_of self.new t ≡ type_of self.old t }
+        ensures kinds { kinds self.new ≡ kinds self.old }
+        ensures budgets { budgets self.new ≡ budgets self.old }
+        ensures kept { MemoryTypesInvariant self.new }
+    {
+        self.relabel(index, piece, Said::Word(word))
+    }
+
+    /// Gives a piece another name or word: what `rename` and `set_word` share.
+    fn relabel(&mut self, index: usize, piece: &Piece<H>, said: Said<'_>) -> Result<()>
+        ensures renamed { OnOk result (IsRelabelled H.eq index piece.now (said_of said.entry) (slots_of self.old)
+            (slots_of self.new)) }
+        ensures cause { IfErr result (λ e. IsNotNamed H.eq (slots_at (slots_of self.old) index)
+            piece.now (refusal_of e)) }
+        ensures no_memory { IfErr result (λ e. e ≡ HostOutOfMemory → MayStarve (said_of said.entry)) }
+        ensures refused { OnErr result (self.new ≡ self.old) }
+        ensures others { (t : ℕ) → t ≢ index → type_of self.new t ≡ type_of self.old t }
+        ensures kinds { kinds self.new ≡ kinds self.old }
+        ensures budgets { budgets self.new ≡ budgets self.old }
+        ensures kept { MemoryTypesInvariant self.new }
+    {
         if index >= self.types.len() {
             return Err(missing_type());
         }
-        self.types[index].rename(piece, name)
+        self.types[index].relabel(piece, said)
     }
 
     /// What holds of live pieces at any time, for callers' proofs: each lies inside its block, no two share a byte, those of

@@ -5,14 +5,15 @@ ghost use Rattle.std.specs.Option.{option_map};
 ghost use Rattle.std.specs.Int.NonZero.{non_zero_u64_get};
 ghost use Rattle.gpu_values.specs.declared.error.AllocationError.TheVariants.{HostOutOfMemory};
 ghost use Rattle.gpu_values.specs.Refusal.{refusal_of};
+ghost use Rattle.gpu_block.specs.Said.{said_of, MayStarve};
 ghost use Rattle.gpu_block.specs.SubAllocator.{block_of};
 ghost use Rattle.gpu_block.specs.Block.{IsSoundBlock, HasPages, HasPagesApart, ReleasesIn};
 ghost use Rattle.gpu_core.specs.TypeState.{slot_size, shared_in};
-ghost use Rattle.gpu_core.specs.TypeRelease.{SlotHolds, IsFreeRefusal, IsNameRefusal, SlotReleases, SlotRenames};
+ghost use Rattle.gpu_core.specs.TypeRelease.{SlotHolds, IsFreeRefusal, IsNameRefusal, SlotReleases, SlotRelabels};
 ghost use Rattle.gpu_core.specs.Slots.{slot_of, Bounds, vacancies, SlotIsSound, Finds, Settles, released_handle, released_size, released_shared};
 
 use crate::Piece;
-use gpu_block::SubAllocator;
+use gpu_block::{Said, SubAllocator};
 use gpu_values::{Result, internal_fault};
 
 /// A live block: the driver's handle of it, and its pieces.
@@ -154,18 +155,19 @@ pub fn release<H: Copy + Eq>(
     }
 }
 
-/// Renames a piece. A refusal leaves the slot as it was.
-pub fn rename<H: Copy + Eq>(
+/// Gives a piece another name or word. A refusal leaves the slot as it was.
+pub fn relabel<H: Copy + Eq>(
     slot: &mut Option<LiveBlock<H>>,
     piece: &Piece<H>,
-    name: &str,
+    said: Said<'_>,
 ) -> Result<()>
     requires { (g : ℕ) × SlotIsSound g (option_map slot_of slot.old) }
-    ensures renamed { OnOk result (SlotRenames (non_zero_u64_get piece.now.chunk_id) name.now
-        (option_map slot_of slot.old) (option_map slot_of slot.new)) }
+    ensures renamed { OnOk result (SlotRelabels (non_zero_u64_get piece.now.chunk_id)
+        (said_of said.entry) (option_map slot_of slot.old) (option_map slot_of slot.new)) }
     ensures live { OnOk result (SlotHolds H.eq piece.now (option_map slot_of slot.old)) }
     ensures starved { IfErr result (λ e. e ≡ HostOutOfMemory
         → SlotHolds H.eq piece.now (option_map slot_of slot.old)) }
+    ensures no_memory { IfErr result (λ e. e ≡ HostOutOfMemory → MayStarve (said_of said.entry)) }
     ensures cause { IfErr result (λ e. IsNameRefusal H.eq piece.now (option_map slot_of slot.old)
         (refusal_of e)) }
     ensures refused { OnErr result (option_map slot_of slot.new ≡ option_map slot_of slot.old) }
@@ -176,7 +178,7 @@ pub fn rename<H: Copy + Eq>(
         None => Err(internal_fault("Memory block must be Some.")),
         Some(block) => match find(block, piece) {
             Finding::Other => Err(internal_fault("Allocation does not belong to this allocator.")),
-            _ => block.sub.rename_allocation(Some(piece.chunk_id), name),
+            _ => block.sub.relabel(Some(piece.chunk_id), said),
         },
     }
 }

@@ -5,15 +5,16 @@ ghost use Rattle.std.specs.Int.{is_power_of_two};
 ghost use Rattle.std.specs.Option.{is_some};
 ghost use Rattle.gpu_values.specs.declared.error.AllocationError.TheVariants.{HostOutOfMemory};
 ghost use Rattle.gpu_values.specs.Refusal.{refusal_of};
+ghost use Rattle.gpu_block.specs.Said.{said_of, MayStarve};
 ghost use Rattle.gpu_core.specs.TypeState.{slot_at, capacity_of, shared_count, highest_empty};
-ghost use Rattle.gpu_core.specs.TypeRelease.{IsLive, IsFreeRefusal, IsNameRefusal, ReleasesPiece, RenamesPiece};
+ghost use Rattle.gpu_core.specs.TypeRelease.{IsLive, IsFreeRefusal, IsNameRefusal, ReleasesPiece, RelabelsPiece};
 ghost use Rattle.gpu_core.specs.TypeTake.{asked, PreparesPiece, NoneServes, NoneServesFrom, new_slot, with_block};
 ghost use Rattle.gpu_core.specs.Slots.{slot_of, slots_of, AreSound, AreNoted, OthersAreNoted, released_handle, released_size, released_shared};
 
 use crate::marks::Marks;
-use crate::slot::{LiveBlock, ReleasedBlock, longest_in, release, rename, vacancies};
+use crate::slot::{LiveBlock, ReleasedBlock, longest_in, relabel, release, vacancies};
 use crate::{Piece, Request};
-use gpu_block::SubAllocator;
+use gpu_block::{Said, SubAllocator};
 use gpu_values::{AllocationError, AllocationType, Result, internal_fault};
 use std::alloc::{AllocError, Global};
 use std::marker::Model;
@@ -228,21 +229,22 @@ impl<H: Copy + Eq> Slots<H> {
         Ok(gone)
     }
 
-    /// Renames a piece. A refusal changes nothing.
-    pub fn rename(&mut self, piece: &Piece<H>, name: &str) -> Result<()>
+    /// Gives a piece another name or word. A refusal changes nothing.
+    pub fn relabel(&mut self, piece: &Piece<H>, said: Said<'_>) -> Result<()>
         requires { (g : ℕ) × AreSound g self.old.slots }
-        ensures renamed { OnOk result (RenamesPiece self.old.slots piece.now name.now
+        ensures renamed { OnOk result (RelabelsPiece self.old.slots piece.now (said_of said.entry)
             self.new.slots) }
         ensures live { OnOk result (IsLive H.eq self.old.slots piece.now) }
         ensures starved { IfErr result (λ e. e ≡ HostOutOfMemory
             → IsLive H.eq self.old.slots piece.now) }
+        ensures no_memory { IfErr result (λ e. e ≡ HostOutOfMemory → MayStarve (said_of said.entry)) }
         ensures cause { IfErr result (λ e. IsNameRefusal H.eq piece.now
             (slot_at self.old.slots piece.now.slot) (refusal_of e)) }
         ensures refused { OnErr result (self.new.slots ≡ self.old.slots) }
         ensures room { self.new.room ≡ self.old.room }
         ensures kept { (g : ℕ) → AreSound g self.old.slots → AreSound g self.new.slots }
     {
-        rename_in(&mut self.blocks, piece, name)?;
+        relabel_in(&mut self.blocks, piece, said)?;
         measure(&mut self.notes, &self.blocks, piece.slot);
         Ok(())
     }
@@ -332,18 +334,19 @@ fn free_in<H: Copy + Eq>(
     release(slot, piece, several)
 }
 
-/// Renames a piece. A refusal changes nothing.
-fn rename_in<H: Copy + Eq>(
+/// Gives a piece another name or word. A refusal changes nothing.
+fn relabel_in<H: Copy + Eq>(
     slots: &mut Vec<Option<LiveBlock<H>>>,
     piece: &Piece<H>,
-    name: &str,
+    said: Said<'_>,
 ) -> Result<()>
     requires { (g : ℕ) × AreSound g (slots_of slots.old.items) }
-    ensures renamed { OnOk result (RenamesPiece (slots_of slots.old.items) piece.now name.now
+    ensures renamed { OnOk result (RelabelsPiece (slots_of slots.old.items) piece.now (said_of said.entry)
         (slots_of slots.new.items)) }
     ensures live { OnOk result (IsLive H.eq (slots_of slots.old.items) piece.now) }
     ensures starved { IfErr result (λ e. e ≡ HostOutOfMemory
         → IsLive H.eq (slots_of slots.old.items) piece.now) }
+    ensures no_memory { IfErr result (λ e. e ≡ HostOutOfMemory → MayStarve (said_of said.entry)) }
     ensures cause { IfErr result (λ e. IsNameRefusal H.eq piece.now
         (slot_at (slots_of slots.old.items) piece.now.slot) (refusal_of e)) }
     ensures refused { OnErr result (slots_of slots.new.items ≡ slots_of slots.old.items) }
@@ -355,5 +358,5 @@ fn rename_in<H: Copy + Eq>(
         return Err(internal_fault("Memory block must be Some."));
     }
     let slot = &mut slots[piece.slot];
-    rename(slot, piece, name)
+    relabel(slot, piece, said)
 }

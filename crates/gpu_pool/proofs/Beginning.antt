@@ -3,6 +3,7 @@ use Rattle.std.proofs.Common.{◌≡◌, ◌∙◌, refl, sym, ap, subst, ℕ, �
 use Rattle.std.proofs.lemmas.List.{length-map}
 use Rattle.gpu_values.specs.Sizes.{Sizes}
 use Rattle.gpu_values.specs.declared.error.AllocationError.{AllocationError}
+use Rattle.gpu_block_pieces.specs.Changes as changes
 use Rattle.gpu_core.specs.declared.memory_type.Prepared.TheVariants as prepared
 use Rattle.gpu_core.specs.declared.need.NeedBlock.{NeedBlock}
 use Rattle.gpu_core.specs.declared.piece.Piece.{Piece}
@@ -17,7 +18,7 @@ use Rattle.gpu_core.proofs.StayLive.{IsNewPiece, installed_keeps, released_keeps
 use Rattle.gpu_core.proofs.Types.{type_sound}
 use Rattle.gpu_pool.specs.Allocate.{request_at, NothingMet}
 use Rattle.gpu_pool.specs.Begin.{NoneAsked, Gives}
-use Rattle.gpu_pool.specs.Idle.{FreesIn, FreesIdle, RenamesIn, RenamesIdle}
+use Rattle.gpu_pool.specs.Idle.{FreesIn, FreesIdle, RenamesIn, RenamesIdle, SetsWordIn, SetsWordIdle}
 use Rattle.gpu_pool.specs.Live.{IsLive, StayLive}
 use Rattle.gpu_pool.specs.RequestState.{RequestState, requests_of, with_sizes, pool_of, CanAnswer}
 use Rattle.gpu_pool.specs.State.{State, kind_at, IsSoundAt}
@@ -112,7 +113,17 @@ module _ {H : Type 0} (eq : H → H → Bool) (old new : RequestState H) (index 
   renamed_in : (o : Option Awaited) (result : Result (Unit {0}) AllocationError) → RenamesIn eq o old index piece name result new → StayLive eq old.slots new.slots
   renamed_in (Some a) result h = stays eq old.slots new.slots (ap (λ (s : RequestState H). s.slots) h.1)
   renamed_in None (Err e) h = stays eq old.slots new.slots (ap (λ (s : RequestState H). s.slots) h.1)
-  renamed_in None (Ok u) h = named_stay eq index piece name old.slots new.slots h.0
+  renamed_in None (Ok u) h = named_stay eq index piece (changes.named name) old.slots new.slots h.0
 
   pub renamed_stay : (result : Result (Unit {0}) AllocationError) → RenamesIdle eq old index piece name result new → StayLive eq old.slots new.slots
   renamed_stay result h = renamed_in old.awaited result h
+
+-- and so does a new word
+module _ {H : Type 0} (eq : H → H → Bool) (old new : RequestState H) (index : ℕ) (piece : Piece H) (word : ℕ) where
+  worded_in : (o : Option Awaited) (result : Result (Unit {0}) AllocationError) → SetsWordIn eq o old index piece word result new → StayLive eq old.slots new.slots
+  worded_in (Some a) result h = stays eq old.slots new.slots (ap (λ (s : RequestState H). s.slots) h.1)
+  worded_in None (Err e) h = stays eq old.slots new.slots (ap (λ (s : RequestState H). s.slots) h.1)
+  worded_in None (Ok u) h = named_stay eq index piece (changes.worded word) old.slots new.slots h.0
+
+  pub worded_stay : (result : Result (Unit {0}) AllocationError) → SetsWordIdle eq old index piece word result new → StayLive eq old.slots new.slots
+  worded_stay result h = worded_in old.awaited result h

@@ -1,6 +1,7 @@
 -- The model isn't loose: a state, a call and what it met with decide the reply and the next state.
 use Rattle.std.proofs.Common.{◌≡◌, ◌∙◌, refl, sym, ap, subst, ℕ, Bool, List, slice_set, Option, Some, None, Ok, Err, Result, IsTrue, arith}
 use Rattle.gpu_values.specs.Refusal.{Refusal}
+use Rattle.gpu_block_pieces.specs.Changes as changes
 use Rattle.gpu_core.specs.TypeRelease.{has_others}
 use Rattle.gpu_block_pieces.specs.Request.{Request}
 use Rattle.gpu_core.specs.TypeState.{TypeState, Slot, slot_at, capacity_of}
@@ -101,7 +102,7 @@ module _ {S H : Type 0} (kinds : List (Bool × ℕ)) (eq : H → H → Bool) (t 
   renames_once NothingMet (Ok u) (Ok v) new next a b =
       let r = a.0 in
       let s = b.0 in
-      let lists = renamed_once (slots_at old.slots t) p name r.left s.left r.renames s.renames in
+      let lists = renamed_once (slots_at old.slots t) p (changes.named name) r.left s.left r.renames s.renames in
       let slots : new.slots ≡ next.slots = r.slots ∙ (ap (slice_set old.slots t) lists ∙ sym s.slots) in
       (refl, a.1 ∙ (λ i. record old { slots = slots i }) ∙ sym b.1)
   renames_once NothingMet (Ok u) (Err e) new next a b = absurd (b.0.dead a.0.live)

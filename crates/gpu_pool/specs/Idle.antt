@@ -5,7 +5,7 @@ use Rattle.gpu_values.specs.declared.error.AllocationError.{AllocationError}
 use Rattle.gpu_core.specs.declared.piece.Piece.{Piece}
 use Rattle.gpu_core.specs.Blocks.{slots_at}
 use Rattle.gpu_core.specs.Release.{ReleasesAt, IsReleaseRefusal}
-use Rattle.gpu_core.specs.Rename.{IsRenamed, IsNotNamed}
+use Rattle.gpu_core.specs.Rename.{IsRenamed, IsNotNamed, IsWorded, IsNotWorded}
 use Rattle.gpu_pool.specs.Live.{IsLive}
 use Rattle.gpu_pool.specs.Told.{SetsBudgetAt}
 use Rattle.gpu_pool.specs.RequestState.{RequestState, IsRefused, answer_awaited}
@@ -25,6 +25,15 @@ module _ {H : Type 0} (eq : H → H → Bool) where
   RenamesIn (Some _) old t p name result new = IsRefused answer_awaited old result new
   RenamesIn None old t p name (Ok _) new = IsRenamed eq t p name old.slots new.slots × (new ≡ record old { slots = new.slots })
   RenamesIn None old t p name (Err e) new = IsNotNamed eq (slots_at old.slots t) p (refusal_of e) × (new ≡ old)
+
+  abbrev pub SetsWordIn : Option Awaited → RequestState H → (t : ℕ) → Piece H → (word : ℕ) → Result (Unit {0}) AllocationError → RequestState H → Type 0
+  SetsWordIn (Some _) old t p word result new = IsRefused answer_awaited old result new
+  SetsWordIn None old t p word (Ok _) new = IsWorded eq t p word old.slots new.slots × (new ≡ record old { slots = new.slots })
+  SetsWordIn None old t p word (Err e) new = IsNotWorded eq (slots_at old.slots t) p (refusal_of e) × (new ≡ old)
+
+  -- another word is kept with a piece where no question is open
+  abbrev pub SetsWordIdle : RequestState H → (t : ℕ) → Piece H → (word : ℕ) → Result (Unit {0}) AllocationError → RequestState H → Type 0
+  SetsWordIdle old t p word result new = SetsWordIn old.awaited old t p word result new
 
   -- a piece is renamed where no question is open
   abbrev pub RenamesIdle : RequestState H → (t : ℕ) → Piece H → (name : List ℕ) → Result (Unit {0}) AllocationError → RequestState H → Type 0

@@ -14,7 +14,7 @@ ghost use Rattle.gpu_pool.specs.Live.{IsLive, StayLive};
 ghost use Rattle.gpu_pool.specs.State.{IsSoundAt};
 ghost use Rattle.gpu_pool.specs.RequestState.{requests_of, with_sizes};
 ghost use Rattle.gpu_pool.specs.Begin.{question_of, Begins, Grants, Declines, Gives, GivesAwaited};
-ghost use Rattle.gpu_pool.specs.Idle.{FreesIdle, RenamesIdle, SetsBudgetIdle};
+ghost use Rattle.gpu_pool.specs.Idle.{FreesIdle, RenamesIdle, SetsBudgetIdle, SetsWordIdle};
 ghost use Rattle.gpu_pool.specs.Move.{ProposesIdle, GivesPlace};
 
 use crate::turn::{answer_awaited, no_answer_awaited};
@@ -240,6 +240,18 @@ impl<H: Copy + Eq> Requests<H> {
             return Err(answer_awaited());
         }
         self.types.rename(index, piece, name)
+    }
+
+    /// Keeps another word of the caller's with a piece of the memory type at `index`. `Internal` where the piece isn't live, or a question is
+    /// open; then nothing changes. It takes no memory.
+    pub fn set_word(&mut self, index: usize, piece: &Piece<H>, word: u64) -> Result<()>
+        ensures sets { SetsWordIdle H.eq self.old index piece.now word result self.new }
+        ensures keeps { StayLive H.eq self.old.slots self.new.slots }
+    {
+        if self.awaits_answer() {
+            return Err(answer_awaited());
+        }
+        self.types.set_word(index, piece, word)
     }
 
     /// Bounds the sum of the sizes of the blocks of the memory type at `index`, in bytes. `Internal` where there is no such

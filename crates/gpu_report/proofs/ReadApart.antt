@@ -22,7 +22,7 @@ use Rattle.gpu_report.specs.Values.{number_of, list_of}
 use Rattle.gpu_report.specs.ReportValue.{row_value, block_row_value, report_value}
 use Rattle.gpu_report.specs.Fits.{Fits, RowFits, BlockRowFits, ReportFits, PieceFits, BlockFits}
 use Rattle.gpu_report.specs.BlocksValue.{piece_value, block_value, blocks_value}
-use Rattle.gpu_report.specs.Printed.{printed}
+use Rattle.gpu_report.specs.Printed.{without_word, printed}
 use Rattle.gpu_report.proofs.Reports.{document-report}
 use Rattle.gpu_report.proofs.Blocks.{document-blocks}
 
@@ -119,7 +119,7 @@ kind-of-word Free = refl
 kind-of-word Linear = refl
 kind-of-word NonLinear = refl
 
-same-piece : (x y : Extent) → PieceFits x → PieceFits y → piece_value x ≡ piece_value y → x ≡ y
+same-piece : (x y : Extent) → PieceFits x → PieceFits y → piece_value x ≡ piece_value y → without_word x ≡ without_word y
 same-piece x y p q e =
     let word : kind_word x.kind ≡ kind_word y.kind = same-string _ _ (ap (at_name (codes "kind")) e) in
     let kind : x.kind ≡ y.kind = kind-of-word x.kind ∙ ap kind_of word ∙ sym (kind-of-word y.kind) in
@@ -132,7 +132,7 @@ same-piece x y p q e =
     let size : x.end - x.offset ≡ y.end - y.offset = same-number _ _ (omega (arith, x-ordered)) (omega (arith, y-ordered)) (ap (at_name (codes "size")) e) in
     let start : x.start ≡ y.start = omega (arith, x-ordered, y-ordered, offset, padding) in
     let end : x.end ≡ y.end = omega (arith, x-ordered, y-ordered, offset, size) in
-    λ i. record { start = start i; offset = offset i; end = end i; kind = kind i; chunk_id = number i; name = name i }
+    λ i. record { start = start i; offset = offset i; end = end i; kind = kind i; chunk_id = number i; name = name i; word = 0 }
 
 same-block-view : (v w : BlockView) → BlockFits v → BlockFits w → block_value v ≡ block_value w → printed v ≡ printed w
 same-block-view v w p q e =
@@ -140,8 +140,8 @@ same-block-view v w p q e =
     let slot : v.slot ≡ w.slot = same-number _ _ p.slot q.slot (ap (at_name (codes "slot")) e) in
     let page_size : v.page_size ≡ w.page_size = same-number _ _ p.page_size q.page_size (ap (at_name (codes "page_size")) e) in
     let size : size_of (block_of v.block.now) ≡ size_of (block_of w.block.now) = same-number _ _ p.size q.size (ap (at_name (codes "size")) e) in
-    let pieces : extents_of (block_of v.block.now) ≡ extents_of (block_of w.block.now) =
-    same-list piece_value PieceFits same-piece _ _ p.pieces q.pieces (ap (at_name (codes "pieces")) e) in
+    let pieces : map without_word (extents_of (block_of v.block.now)) ≡ map without_word (extents_of (block_of w.block.now)) =
+    same-seen piece_value without_word PieceFits same-piece _ _ p.pieces q.pieces (ap (at_name (codes "pieces")) e) in
     λ i. record { memory_type = memory_type i; slot = slot i; page_size = page_size i; size = size i; pieces = pieces i }
 
 pub blocks-apart : (views others : List BlockView) → All BlockFits views → All BlockFits others → blocks_json views ≡ blocks_json others → map printed views ≡ map printed others

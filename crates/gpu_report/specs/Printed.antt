@@ -1,9 +1,13 @@
 -- What is printed of a block.
-use Rattle.std.specs.Prelude.{ℕ, List}
+use Rattle.std.specs.Prelude.{ℕ, List, map}
 use Rattle.gpu_block_pieces.specs.FreeList.{Extent}
 use Rattle.gpu_block.specs.Block.{extents_of, size_of}
 use Rattle.gpu_block.specs.SubAllocator.{block_of}
 use Rattle.gpu_report.specs.declared.view.BlockView.{BlockView}
+
+-- a piece without the word of its caller's, which isn't printed
+abbrev pub without_word : Extent → Extent
+without_word x = record x { word = 0 }
 
 -- where the block stands, its page size, its size and its pieces, from which its gaps and what is counted of it follow
 pub record PrintedBlock : Type 0 where
@@ -19,5 +23,5 @@ printed v = record {
   slot = v.slot;
   page_size = v.page_size;
   size = size_of (block_of v.block.now);
-  pieces = extents_of (block_of v.block.now);
+  pieces = map without_word (extents_of (block_of v.block.now));
 }

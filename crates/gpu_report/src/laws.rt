@@ -32,7 +32,8 @@ pub fn blocks_read_back()
         → document (blocks_json views) ≡ Some (blocks_value views) }
 {}
 
-/// Blocks with the same JSON stand at the same places with the same page sizes, sizes and pieces.
+/// Blocks with the same JSON stand at the same places with the same page sizes, sizes and pieces, but for words of callers, which
+/// aren't printed.
 pub fn blocks_print_apart()
     ensures { (views others : List BlockView) → All BlockFits views → All BlockFits others
         → blocks_json views ≡ blocks_json others → map printed views ≡ map printed others }

@@ -6,13 +6,13 @@ use Rattle.std.specs.Global.{Global}
 use Rattle.std.specs.Option.{option_map, option_to_list}
 use Rattle.std.specs.Int.NonZero.{non_zero_u64_get}
 use Rattle.gpu_block.specs.Block.{Block, free_list, dedicated, extents_of, RenamesIn}
-use Rattle.gpu_block_pieces.specs.Changes.{with_name}
-use Rattle.gpu_block.specs.Dedicated.{renamed, held_extents}
+use Rattle.gpu_block_pieces.specs.Changes.{named, relabel, relabelled}
+use Rattle.gpu_block.specs.Dedicated.{held_extents}
 use Rattle.gpu_block_pieces.specs.FreeList.{Extent}
 use Rattle.gpu_block_pieces.specs.Leak.{leak_text}
 use Rattle.gpu_values.specs.Refusal.{refusal_of}
 use Rattle.gpu_values.specs.Report.{report_of}
-use Rattle.gpu_core.specs.TypeRelease.{SlotRenames}
+use Rattle.gpu_core.specs.TypeRelease.{SlotRelabels}
 use Rattle.gpu_core.specs.TypeState.{Slot, slot_at}
 use Rattle.gpu_core.specs.declared.piece.Piece.{Piece}
 use Rattle.gpu_core.proofs.Slotted.{set_only}
@@ -65,7 +65,7 @@ alike_bytes bytes (Some x) None h = absurd h
 
 module _ (n : ℕ) (name : List ℕ) where
   abbrev f : Extent → Extent
-  f x = with_name n name x
+  f x = relabelled n (named name) x
 
   kept : (x : Extent) → ((f x).offset ≡ x.offset) × ((f x).end ≡ x.end) × ((f x).chunk_id ≡ x.chunk_id)
   kept x = name_kept (x.chunk_id == n) x name
@@ -88,15 +88,15 @@ module _ (n : ℕ) (name : List ℕ) where
       let rest = named_covered xs at in
       λ i. (nat_le (o i) at && nat_lt at (e i)) || rest i
 
-one_number : (o : Option Extent) (name : List ℕ) (k : ℕ) → IsAlike (piece_of_number (option_to_list (option_map (renamed name) o)) k) (piece_of_number (option_to_list o) k)
+one_number : (o : Option Extent) (name : List ℕ) (k : ℕ) → IsAlike (piece_of_number (option_to_list (option_map (relabel (named name)) o)) k) (piece_of_number (option_to_list o) k)
 one_number None name k = tt
 one_number (Some x) name k = alike_if (x.chunk_id == k)
   where
-    alike_if : (b : Bool) → IsAlike (if b then Some (renamed name x) else None) (if b then Some x else None)
+    alike_if : (b : Bool) → IsAlike (if b then Some (relabel (named name) x) else None) (if b then Some x else None)
     alike_if true = (refl, refl)
     alike_if false = tt
 
-one_covered : (o : Option Extent) (name : List ℕ) (at : ℕ) → is_covered (option_to_list (option_map (renamed name) o)) at ≡ is_covered (option_to_list o) at
+one_covered : (o : Option Extent) (name : List ℕ) (at : ℕ) → is_covered (option_to_list (option_map (relabel (named name)) o)) at ≡ is_covered (option_to_list o) at
 one_covered None name at = refl
 one_covered (Some x) name at = refl
 
@@ -114,21 +114,21 @@ block_covered_alike (free_list old) n name (dedicated new) r at = absurd r
 block_covered_alike (dedicated old) n name (free_list new) r at = absurd r
 block_covered_alike (dedicated old) n name (dedicated new) r at = ap (λ d. is_covered (held_extents d) at) r.2 ∙ one_covered old.piece name at
 
-slot_list : (held : Held) (n : ℕ) (name : List ℕ) (a b : Option (Slot DeviceMemory)) → SlotRenames n name a b → (k : ℕ) → list_in held b k ≡ list_in held a k
+slot_list : (held : Held) (n : ℕ) (name : List ℕ) (a b : Option (Slot DeviceMemory)) → SlotRelabels n (named name) a b → (k : ℕ) → list_in held b k ≡ list_in held a k
 slot_list held n name None b r k = absurd r
 slot_list held n name (Some a) None r k = absurd r
 slot_list held n name (Some a) (Some b) r k =
     ap (λ (m : DeviceMemory). piece_bytes (bytes_of held m.0) (piece_of_number (extents_of b.block) k)) r.0
     ∙ alike_bytes (bytes_of held a.handle.0) (piece_of_number (extents_of b.block) k) (piece_of_number (extents_of a.block) k) (block_number_alike a.block n name b.block r.1 k)
 
-slot_rest : (held : Held) (n : ℕ) (name : List ℕ) (a b : Option (Slot DeviceMemory)) → SlotRenames n name a b → (at : ℕ) → rest_in held b at ≡ rest_in held a at
+slot_rest : (held : Held) (n : ℕ) (name : List ℕ) (a b : Option (Slot DeviceMemory)) → SlotRelabels n (named name) a b → (at : ℕ) → rest_in held b at ≡ rest_in held a at
 slot_rest held n name None b r at = absurd r
 slot_rest held n name (Some a) None r at = absurd r
 slot_rest held n name (Some a) (Some b) r at =
     ap (λ (m : DeviceMemory). if is_covered (extents_of b.block) at then None else byte_at (bytes_of held m.0) at) r.0
     ∙ ap (λ c. if c then None else byte_at (bytes_of held a.handle.0) at) (block_covered_alike a.block n name b.block r.1 at)
 
-slot_there : (n : ℕ) (name : List ℕ) (slots : List (Option (Slot DeviceMemory))) (i : ℕ) (a b : Option (Slot DeviceMemory)) → slot_at slots i ≡ a → SlotRenames n name a b → i < length slots
+slot_there : (n : ℕ) (name : List ℕ) (slots : List (Option (Slot DeviceMemory))) (i : ℕ) (a b : Option (Slot DeviceMemory)) → slot_at slots i ≡ a → SlotRelabels n (named name) a b → i < length slots
 slot_there n name slots i None b at r = absurd r
 slot_there n name slots i (Some a) b at r = some_below slots i a at
 

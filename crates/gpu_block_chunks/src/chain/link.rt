@@ -5,7 +5,7 @@ ghost use Rattle.gpu_block_chunks.specs.Nodes.{link_chunk_id, link_slot};
 
 use super::Neighbour;
 use crate::chunk::{ChunkView, NewChunk};
-use crate::name::NewName;
+use crate::label::NewLabel;
 
 /// Where a chunk is found: its number, and the slot that it stands in.
 #[derive(Clone, Copy)]
@@ -31,11 +31,11 @@ pub struct LinkedView<'a> {
 }
 
 impl<'a> LinkedChunk<'a> {
-    /// The chunk of that name, where it stands there and these are beside it.
+    /// The chunk of that label, where it stands there and these are beside it.
     pub fn new(
         here: Neighbour,
         offset: u64,
-        name: NewName<'a>,
+        label: NewLabel<'a>,
         prev: Option<u32>,
         next: Option<u32>,
     ) -> LinkedChunk<'a>
@@ -46,7 +46,7 @@ impl<'a> LinkedChunk<'a> {
           offset = offset;
           kind = here.kind;
           chunk_id = here.chunk_id;
-          name = name.entry;
+          label = label.entry;
         } }
     {
         let chunk = NewChunk {
@@ -55,7 +55,7 @@ impl<'a> LinkedChunk<'a> {
             offset,
             kind: here.kind,
             chunk_id: here.chunk_id,
-            name,
+            label,
         };
         LinkedChunk { prev, next, chunk }
     }

@@ -5,11 +5,11 @@ ghost use Rattle.gpu_cost.specs.Cost.{LooksUp, LooksUpBetween};
 ghost use Rattle.gpu_block_chunks.specs.Slots.{linked_of};
 ghost use Rattle.gpu_block_chunks.specs.Nodes.{held_at, room_of, node_value, link_chunk_id, number_at, IsTaken, Leads, Reaches, KeepsOthers};
 ghost use Rattle.gpu_block_chunks.specs.Chain.{Node, CanJoin, JoinsNext, JoinsRight, JoinsLeft, JoinsUnder, LinkedAt, is_free_kind};
-ghost use Rattle.gpu_block_chunks.specs.Chain.{ChangesAt, ChangesAtOpt, with_next, with_prev, cut_node, joined_node, used_node};
+ghost use Rattle.gpu_block_chunks.specs.Chain.{ChangesAt, ChangesAtOpt, with_next, with_prev, cut_node, joined_node, used_node, worded_node};
 
 use super::link::{Link, LinkedView, slot_of};
 use super::nodes::Nodes;
-use crate::name::Name;
+use crate::label::Label;
 use gpu_cost::Cost;
 use gpu_values::AllocationType;
 
@@ -177,18 +177,31 @@ pub fn set_use(
     at: Link,
     offset: u64,
     kind: AllocationType,
-    name: Name,
+    label: Label,
     cost: &mut Cost,
 )
     requires { Reaches nodes.old (Some at) }
-    ensures changes { ChangesAt at.chunk_id (used_node offset kind name) (held_at nodes.old)
+    ensures changes { ChangesAt at.chunk_id (used_node offset kind label) (held_at nodes.old)
         (held_at nodes.new) }
     ensures ids { nodes.new.ids ≡ nodes.old.ids }
     ensures room { room_of nodes.new ≡ room_of nodes.old }
     ensures counted { LooksUp 1 cost.old cost.new }
 {
     cost.look_up();
-    nodes.chunks.set_use(at.slot as usize, offset, kind, name);
+    nodes.chunks.set_use(at.slot as usize, offset, kind, label);
+}
+
+/// Gives a chunk another word.
+pub fn set_word(nodes: &mut Nodes, at: Link, word: u64, cost: &mut Cost)
+    requires { Reaches nodes.old (Some at) }
+    ensures changes { ChangesAt at.chunk_id (worded_node word) (held_at nodes.old)
+        (held_at nodes.new) }
+    ensures ids { nodes.new.ids ≡ nodes.old.ids }
+    ensures room { room_of nodes.new ≡ room_of nodes.old }
+    ensures counted { LooksUp 1 cost.old cost.new }
+{
+    cost.look_up();
+    nodes.chunks.set_word(at.slot as usize, word);
 }
 
 /// Whether the chunk that a link leads to is free.

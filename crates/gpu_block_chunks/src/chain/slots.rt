@@ -1,16 +1,16 @@
-//! Chunks in slots, and the list of the free slots. The names lie apart, so that a look at a chunk reads 48 bytes.
+//! Chunks in slots, and the list of the free slots. The labels lie apart, so that a look at a chunk reads 48 bytes.
 
 ghost use Rattle.std.specs.Prelude.{◌≡◌, ◌+◌, ◌^◌, ◌≤◌, ◌<◌, [], length, IsSome, IsSomeAnd, IfSome, IfOk, OnOk, Some, None};
 ghost use Rattle.std.specs.Option.{option_map};
 ghost use Rattle.gpu_block_chunks.specs.Slots.{chunk_at, taken, changed_at, ChangesSlot, IsFirst};
-ghost use Rattle.gpu_block_chunks.specs.Slots.{linked_of, linked_next, linked_prev, cut_linked, joined_linked, used_linked};
+ghost use Rattle.gpu_block_chunks.specs.Slots.{linked_of, linked_next, linked_prev, cut_linked, joined_linked, used_linked, worded_linked};
 ghost use Rattle.gpu_block_chunks.specs.SlotLink.{IsLinkable};
 ghost use Rattle.gpu_block_chunks.specs.FreeSlots.{Taken, slot_of};
 
 use super::link::{LinkedChunk, LinkedView};
 use super::slot_link::SlotLink;
 use crate::chunk::ChunkView;
-use crate::name::{Name, NewName};
+use crate::label::{Label, NewLabel};
 use gpu_values::AllocationType;
 use std::alloc::{AllocError, Global};
 use std::marker::Model;
@@ -18,7 +18,7 @@ use std::marker::Model;
 /// By how many slots the room grows at least.
 const LEAST_GROWTH: usize = 4;
 
-/// A slot without its name. One that is taken has a chunk; another is free, and its `next` is the next slot that is free.
+/// A slot without its label. One that is taken has a chunk; another is free, and its `next` is the next slot that is free.
 #[derive(Clone, Copy)]
 struct Cell {
     start: u64,
@@ -34,8 +34,8 @@ struct Cell {
 // What a look at a chunk reads.
 const _: () = prove!(size_of::<Cell>() == 48);
 
-/// The cell of a chunk, and its name.
-fn parts<'a>(linked: LinkedChunk<'a>) -> (Cell, NewName<'a>)
+/// The cell of a chunk, and its label.
+fn parts<'a>(linked: LinkedChunk<'a>) -> (Cell, NewLabel<'a>)
     requires prev { IfSome linked.prev IsLinkable }
     requires next { IfSome linked.next IsLinkable }
     ensures { slot_of result.0 result.1 ≡ Taken linked.entry }
@@ -51,15 +51,15 @@ fn parts<'a>(linked: LinkedChunk<'a>) -> (Cell, NewName<'a>)
         kind: chunk.kind,
         taken: true,
     };
-    (cell, chunk.name)
+    (cell, chunk.label)
 }
 
-/// Chunks in slots. A chunk keeps its slot until it is taken out; then the slot is the first to be used again. The name of a free slot is
+/// Chunks in slots. A chunk keeps its slot until it is taken out; then the slot is the first to be used again. The label of a free slot is
 /// empty, so that the memory of a long one is given back.
 #[derive(Drop)]
 pub struct Slots {
     cells: Vec<Cell>,
-    names: Vec<Name>,
+    labels: Vec<Label>,
     free: SlotLink,
     live: usize,
 }
@@ -72,11 +72,11 @@ impl Model for Slots {
     ghost Value = { Stored };
 
     ghost view = { λ s. record {
-      slots = map chunk_in (slots_of s.cells.items s.names.items);
-      room = min (vec_capacity s.cells) (vec_capacity s.names) - s.live;
+      slots = map chunk_in (slots_of s.cells.items s.labels.items);
+      room = min (vec_capacity s.cells) (vec_capacity s.labels) - s.live;
     } };
 
-    ghost invariant = { λ s. AreSlots s.cells.items s.names.items s.live s.free };
+    ghost invariant = { λ s. AreSlots s.cells.items s.labels.items s.live s.free };
 }
 
 impl Slots {
@@ -85,10 +85,10 @@ impl Slots {
         ensures empty { IfOk result (λ s. s.slots ≡ []) }
         ensures room { IfOk result (λ s. capacity ≤ s.room) }
     {
-        let names = Vec::with_capacity(alloc, capacity)?;
+        let labels = Vec::with_capacity(alloc, capacity)?;
         Ok(Slots {
             cells: Vec::with_capacity(alloc, capacity)?,
-            names,
+            labels,
             free: SlotLink::none(),
             live: 0,
         })
@@ -98,7 +98,7 @@ impl Slots {
     pub fn room(&self) -> usize
         ensures { result ≡ self.now.room }
     {
-        self.cells.capacity().min(self.names.capacity()) - self.live
+        self.cells.capacity().min(self.labels.capacity()) - self.live
     }
 
     /// How many chunks there are.
@@ -112,10 +112,10 @@ impl Slots {
     pub fn capacity(&self) -> usize
         ensures { result ≡ taken self.now + self.now.room }
     {
-        self.cells.capacity().min(self.names.capacity())
+        self.cells.capacity().min(self.labels.capacity())
     }
 
-    /// Makes room for that many more chunks, and for their names. A refusal changes no slot. Slots are long, so their room grows by a
+    /// Makes room for that many more chunks, and for their labels. A refusal changes no slot. Slots are long, so their room grows by a
     /// sixteenth, and not to the double.
     pub fn reserve(&mut self, more: usize) -> Result<(), AllocError>
         ensures same { self.new.slots ≡ self.old.slots }
@@ -127,7 +127,7 @@ impl Slots {
         }
         let free = self.cells.len() - self.live;
         let more = more.max(self.live / 16).max(LEAST_GROWTH);
-        self.names.reserve_exact(more - free)?;
+        self.labels.reserve_exact(more - free)?;
         self.cells.reserve_exact(more - free)
     }
 
@@ -155,7 +155,7 @@ impl Slots {
             kind: cell.kind,
             chunk_id: cell.chunk_id,
             offset: cell.offset,
-            name: &self.names[slot],
+            label: &self.labels[slot],
         };
         LinkedView {
             prev: cell.prev.slot(),
@@ -213,15 +213,24 @@ impl Slots {
     }
 
     /// Gives the chunk in a slot another use.
-    pub fn set_use(&mut self, slot: usize, offset: u64, kind: AllocationType, name: Name)
+    pub fn set_use(&mut self, slot: usize, offset: u64, kind: AllocationType, label: Label)
         requires { IsSome (chunk_at self.old slot) }
-        ensures changes { self.new ≡ changed_at self.old slot (used_linked offset kind name) }
+        ensures changes { self.new ≡ changed_at self.old slot (used_linked offset kind label) }
         ensures count { taken self.new ≡ taken self.old }
     {
         let cell = &mut self.cells[slot];
         cell.offset = offset;
         cell.kind = kind;
-        self.names[slot] = name;
+        self.labels[slot] = label;
+    }
+
+    /// Gives the chunk in a slot another word.
+    pub fn set_word(&mut self, slot: usize, word: u64)
+        requires { IsSome (chunk_at self.old slot) }
+        ensures changes { self.new ≡ changed_at self.old slot (worded_linked word) }
+        ensures count { taken self.new ≡ taken self.old }
+    {
+        self.labels[slot].word = word;
     }
 
     /// Puts a chunk into the first free slot, or into a new one. There is room for it, so no memory is taken.
@@ -242,13 +251,13 @@ impl Slots {
         let Some(slot) = self.free.slot() else {
             let slot = self.cells.len();
             self.cells.push_reserved(cell);
-            self.names.push_reserved(Name::of(text));
+            self.labels.push_reserved(Label::of(text));
             return slot;
         };
         let slot = slot as usize;
         self.free = self.cells[slot].next;
         self.cells[slot] = cell;
-        self.names[slot].set(text);
+        self.labels[slot].set(text);
         slot
     }
 
@@ -263,7 +272,7 @@ impl Slots {
         let cell = &mut self.cells[slot];
         cell.taken = false;
         cell.next = self.free;
-        self.names[slot] = Name::empty();
+        self.labels[slot] = Label::empty();
         self.free = SlotLink::new(Some(slot as u32));
         self.live -= 1;
     }

@@ -15,7 +15,7 @@ ghost use Rattle.gpu_d3d12.specs.Committed.{statistics_at};
 ghost use Rattle.gpu_d3d12.specs.CommittedRequests.{Makes, Declines, Forgets};
 ghost use Rattle.gpu_d3d12.specs.MemoryKinds.{memory_kinds};
 ghost use Rattle.gpu_d3d12.specs.Setup.{kinds_of_device};
-ghost use Rattle.gpu_pool.specs.Idle.{FreesIdle, RenamesIdle, SetsBudgetIdle};
+ghost use Rattle.gpu_pool.specs.Idle.{FreesIdle, RenamesIdle, SetsBudgetIdle, SetsWordIdle};
 ghost use Rattle.gpu_pool.specs.Live.{IsLive, StayLive};
 ghost use Rattle.gpu_pool.specs.Move.{GivesPlace};
 ghost use Rattle.gpu_pool.specs.Told.{Reports};
@@ -230,6 +230,18 @@ impl Machine {
         ensures keeps { StayLive is_same_heap self.old.requests.slots self.new.requests.slots }
     {
         self.requests.rename(index, piece, name)
+    }
+
+    /// Keeps another word of the caller's with a piece of the memory type at `index`, for visits to show: the address of the caller's
+    /// object, say. A new piece has the word 0. `Internal` where the piece isn't live, or a question is open; then nothing changes. It takes no
+    /// memory.
+    pub fn set_word(&mut self, index: usize, piece: &Piece<ID3D12Heap>, word: u64) -> Result<()>
+        ensures sets { SetsWordIdle is_same_heap self.old.requests index piece.now word result
+            self.new.requests }
+        ensures others { self.new ≡ record self.old { requests = self.new.requests } }
+        ensures keeps { StayLive is_same_heap self.old.requests.slots self.new.requests.slots }
+    {
+        self.requests.set_word(index, piece, word)
     }
 
     /// Whether a piece of the memory type at `index` is live.

@@ -12,7 +12,7 @@ ghost use Rattle.gpu_device.specs.declared.metal.types.MTLHeap.{MTLHeap};
 ghost use Rattle.gpu_metal.specs.Blocks.{is_same_heap};
 ghost use Rattle.gpu_metal.specs.MemoryKinds.{locations};
 ghost use Rattle.gpu_metal.specs.Setup.{kinds_of_device};
-ghost use Rattle.gpu_pool.specs.Idle.{RenamesIdle, SetsBudgetIdle};
+ghost use Rattle.gpu_pool.specs.Idle.{RenamesIdle, SetsBudgetIdle, SetsWordIdle};
 ghost use Rattle.gpu_pool.specs.Live.{IsLive, StayLive};
 ghost use Rattle.gpu_pool.specs.Move.{GivesPlace};
 ghost use Rattle.gpu_pool.specs.Told.{Reports};
@@ -218,6 +218,18 @@ impl Machine {
         ensures keeps { StayLive is_same_heap self.old.requests.slots self.new.requests.slots }
     {
         self.requests.rename(index, piece, name)
+    }
+
+    /// Keeps another word of the caller's with a piece of the memory type at `index`, for visits to show: the address of the caller's
+    /// object, say. A new piece has the word 0. `Internal` where the piece isn't live, or a question is open; then nothing changes. It takes no
+    /// memory.
+    pub fn set_word(&mut self, index: usize, piece: &Piece<MTLHeap>, word: u64) -> Result<()>
+        ensures sets { SetsWordIdle is_same_heap self.old.requests index piece.now word result
+            self.new.requests }
+        ensures set { self.new.has_set ≡ self.old.has_set }
+        ensures keeps { StayLive is_same_heap self.old.requests.slots self.new.requests.slots }
+    {
+        self.requests.set_word(index, piece, word)
     }
 
     /// Whether a piece of the memory type at `index` is live.

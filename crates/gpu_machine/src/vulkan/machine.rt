@@ -11,7 +11,7 @@ ghost use Rattle.gpu_core.specs.Budgets.{budget_at, budgets};
 ghost use Rattle.gpu_core.specs.Leaks.{all_leaks};
 ghost use Rattle.gpu_core.specs.TypeState.{slot_at};
 ghost use Rattle.gpu_core.specs.Types.{slots_of, kinds};
-ghost use Rattle.gpu_pool.specs.Idle.{RenamesIdle, SetsBudgetIdle};
+ghost use Rattle.gpu_pool.specs.Idle.{RenamesIdle, SetsBudgetIdle, SetsWordIdle};
 ghost use Rattle.gpu_pool.specs.Live.{IsLive, StayLive};
 ghost use Rattle.gpu_pool.specs.Move.{GivesPlace};
 ghost use Rattle.gpu_pool.specs.Told.{Reports};
@@ -357,6 +357,18 @@ impl<H: Copy + Eq> Machine<H> {
         ensures keeps { StayLive H.eq self.old.requests.slots self.new.requests.slots }
     {
         self.requests.rename(index, piece, name)
+    }
+
+    /// Keeps another word of the caller's with a piece of the memory type at `index`, for visits to show: the address of the caller's
+    /// object, say. A new piece has the word 0. `Internal` where the piece isn't live, or a question is open; then nothing changes. It takes no
+    /// memory.
+    pub fn set_word(&mut self, index: usize, piece: &Piece<H>, word: u64) -> Result<()>
+        ensures sets { SetsWordIdle H.eq self.old.requests index piece.now word result
+            self.new.requests }
+        ensures others { self.new ≡ record self.old { requests = self.new.requests } }
+        ensures keeps { StayLive H.eq self.old.requests.slots self.new.requests.slots }
+    {
+        self.requests.set_word(index, piece, word)
     }
 
     /// Whether a piece of the memory type at `index` is live.

@@ -20,17 +20,17 @@ overflow_add-rest c =
 pub replace-requires-clause-fresh : goal.replace-requires-clause-fresh
 replace-requires-clause-fresh c = λ rest gone.
     front_no_key c.args.chain.now.chunks c.args.index.now.gaps c.args.found.gap c.requires.listed c.requires.gap c.split_front.new.self.chunks c.args.taken c.args.chunk_id c.args.found.offset
-    c.args.kind c.args.name c.laid_out.ensures.distinct c.requires.piece c.split_front.ensures.chunks
+    c.args.kind c.args.label c.laid_out.ensures.distinct c.requires.piece c.split_front.ensures.chunks
     rest c.args.chain.now.size c.laid_out.ensures.covers c.requires.some c.requires.shorter c.in_order.ensures gone
 
 pub returns-clause-listed : goal.returns-clause-listed
 returns-clause-listed c =
     let r = c.replace.ensures.gaps in
     front_listed c.args.chain.now.chunks c.args.index.now.gaps c.args.found.gap c.requires.listed c.requires.gap c.split_front.new.self.chunks c.args.taken c.args.chunk_id c.args.found.offset
-    c.args.kind c.args.name c.laid_out.ensures.distinct c.requires.piece c.split_front.ensures.chunks
+    c.args.kind c.args.label c.laid_out.ensures.distinct c.requires.piece c.split_front.ensures.chunks
     r.rest c.replace.new.self.gaps c.in_order.ensures r.gone r.put
 
 pub returns-clause-live : goal.returns-clause-live
 returns-clause-live c =
     front_live c.args.chain.now.chunks c.args.index.now.gaps c.args.found.gap c.requires.listed c.requires.gap c.split_front.new.self.chunks c.args.taken c.args.chunk_id c.args.found.offset c.args.kind
-    c.args.name c.laid_out.ensures.distinct c.requires.piece c.split_front.ensures.chunks
+    c.args.label c.laid_out.ensures.distinct c.requires.piece c.split_front.ensures.chunks

@@ -9,11 +9,11 @@ fill-requires c = record { there = gap_has c.args.chain.now.chunks c.args.index.
 
 pub returns-clause-listed : goal.returns-clause-listed
 returns-clause-listed c =
-    whole_listed c.args.chain.now.chunks c.args.index.now.gaps c.args.found.gap c.requires.listed c.requires.gap c.fill.new.self.chunks c.args.found.offset c.args.kind c.args.name
+    whole_listed c.args.chain.now.chunks c.args.index.now.gaps c.args.found.gap c.requires.listed c.requires.gap c.fill.new.self.chunks c.args.found.offset c.args.kind c.args.label
     c.laid_out.ensures.distinct c.requires.piece c.fill.ensures.chunks
     c.remove.new.self.gaps c.remove.ensures.ordered c.remove.ensures.gaps
 
 pub returns-clause-live : goal.returns-clause-live
 returns-clause-live c =
-    whole_live c.args.chain.now.chunks c.args.index.now.gaps c.args.found.gap c.requires.listed c.requires.gap c.fill.new.self.chunks c.args.found.offset c.args.kind c.args.name
+    whole_live c.args.chain.now.chunks c.args.index.now.gaps c.args.found.gap c.requires.listed c.requires.gap c.fill.new.self.chunks c.args.found.offset c.args.kind c.args.label
     c.laid_out.ensures.distinct c.requires.piece c.fill.ensures.chunks

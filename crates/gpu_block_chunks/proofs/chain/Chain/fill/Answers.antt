@@ -23,11 +23,11 @@ set_use-requires c = (
 pub invariant_of-self : goal.invariant_of-self
 invariant_of-self c =
     (filled (held_at c.self.inside.nodes) c.self.inside.first c.self.inside.size _ c.args.self.now.chunks c.self.invariant (ap (λ (v : Linked). v.chunks) c.self.view_is)
-    (held_at c.set_use.new.nodes) c.args.chunk_id c.args.offset c.args.kind c.args.name
+    (held_at c.set_use.new.nodes) c.args.chunk_id c.args.offset c.args.kind c.args.label
     c.requires.there (rw (c.link_to-at.ensures.chunk_id, c.of.ensures) at c.set_use.ensures.changes)).0
 
 pub returns-clause-chunks : goal.returns-clause-chunks
 returns-clause-chunks c =
     (filled (held_at c.self.inside.nodes) c.self.inside.first c.self.inside.size _ c.args.self.now.chunks c.self.invariant (ap (λ (v : Linked). v.chunks) c.self.view_is)
-    (held_at c.set_use.new.nodes) c.args.chunk_id c.args.offset c.args.kind c.args.name
+    (held_at c.set_use.new.nodes) c.args.chunk_id c.args.offset c.args.kind c.args.label
     c.requires.there (rw (c.link_to-at.ensures.chunk_id, c.of.ensures) at c.set_use.ensures.changes)).1

@@ -64,14 +64,14 @@ invariant_of-self c =
     let ps = walk c.self.inside.size (held_at c.self.inside.nodes) (Some c.self.inside.first) in
     let view = (ap (λ (v : Linked). v.chunks) c.self.view_is) in
     let d = split_chain_at (held_at c.self.inside.nodes) (held_at c.put-piece.new.self) (held_at c.cut_front.new.nodes) (held_at c.set_next_of.new.nodes)
-    c.self.inside.first c.self.inside.size ps ps c.args.new c.args.chunk_id c.args.taken c.args.offset c.args.kind c.args.name c.ends_of-ends.result.start (link_chunk_id c.link_in-prev.result)
+    c.self.inside.first c.self.inside.size ps ps c.args.new c.args.chunk_id c.args.taken c.args.offset c.args.kind c.args.label c.ends_of-ends.result.start (link_chunk_id c.link_in-prev.result)
     c.self.invariant refl (can_split ps c.args.self.now.chunks c.args.chunk_id c.args.taken view c.self.invariant.numbered c.requires.longer) c.requires.positive
     (apart_of c.args.new ps (subst (λ (xs : List Chunk). HasNoChunkId xs c.args.new) (sym view) c.requires.fresh) c.self.invariant.numbered)
     (λ n h. let e = c.ends_of-ends.ensures.ends n (rw c.link_to-rest.ensures.chunk_id h) in (e.0, c.link_in-prev.ensures.chunk_id ∙ e.1))
     (rw (value_of_new c.self.inside.nodes.ids c.new.result _ c.ends_of-ends.result.prev (Some c.link_to-rest.result.slot) (link_chunk_id c.link_in-prev.result) (Some c.link_to-rest.result.chunk_id) c.new.ensures.value c.new.ensures.links (sym c.link_in-prev.ensures.chunk_id) c.link_to-rest.ensures.leads, c.link_to-rest.ensures.chunk_id) at c.put-piece.ensures.sets)
     (rw (c.link_to-rest.ensures.chunk_id, c.put-piece.ensures.link.0) at c.cut_front.ensures.changes) (rw c.put-piece.ensures.link.0 at c.set_next_of.ensures.changes) in
     let g = first_after (link_chunk_id c.link_in-prev.result) c.args.new c.self.inside.first in
-    let w = split_walk (held_at c.set_next_of.new.nodes) g c.self.inside.size ps c.args.chunk_id c.args.taken c.args.new c.args.offset c.args.kind c.args.name d in
+    let w = split_walk (held_at c.set_next_of.new.nodes) g c.self.inside.size ps c.args.chunk_id c.args.taken c.args.new c.args.offset c.args.kind c.args.label d in
     rw (c.first_of-self-inside.ensures, c.chunk_id_of.ensures) w.0
 
 pub returns-clause-chunks : goal.returns-clause-chunks
@@ -79,14 +79,14 @@ returns-clause-chunks c =
     let ps = walk c.self.inside.size (held_at c.self.inside.nodes) (Some c.self.inside.first) in
     let view = (ap (λ (v : Linked). v.chunks) c.self.view_is) in
     let d = split_chain_at (held_at c.self.inside.nodes) (held_at c.put-piece.new.self) (held_at c.cut_front.new.nodes) (held_at c.set_next_of.new.nodes)
-    c.self.inside.first c.self.inside.size ps ps c.args.new c.args.chunk_id c.args.taken c.args.offset c.args.kind c.args.name c.ends_of-ends.result.start (link_chunk_id c.link_in-prev.result)
+    c.self.inside.first c.self.inside.size ps ps c.args.new c.args.chunk_id c.args.taken c.args.offset c.args.kind c.args.label c.ends_of-ends.result.start (link_chunk_id c.link_in-prev.result)
     c.self.invariant refl (can_split ps c.args.self.now.chunks c.args.chunk_id c.args.taken view c.self.invariant.numbered c.requires.longer) c.requires.positive
     (apart_of c.args.new ps (subst (λ (xs : List Chunk). HasNoChunkId xs c.args.new) (sym view) c.requires.fresh) c.self.invariant.numbered)
     (λ n h. let e = c.ends_of-ends.ensures.ends n (rw c.link_to-rest.ensures.chunk_id h) in (e.0, c.link_in-prev.ensures.chunk_id ∙ e.1))
     (rw (value_of_new c.self.inside.nodes.ids c.new.result _ c.ends_of-ends.result.prev (Some c.link_to-rest.result.slot) (link_chunk_id c.link_in-prev.result) (Some c.link_to-rest.result.chunk_id) c.new.ensures.value c.new.ensures.links (sym c.link_in-prev.ensures.chunk_id) c.link_to-rest.ensures.leads, c.link_to-rest.ensures.chunk_id) at c.put-piece.ensures.sets)
     (rw (c.link_to-rest.ensures.chunk_id, c.put-piece.ensures.link.0) at c.cut_front.ensures.changes) (rw c.put-piece.ensures.link.0 at c.set_next_of.ensures.changes) in
     let g = first_after (link_chunk_id c.link_in-prev.result) c.args.new c.self.inside.first in
-    let w = split_walk (held_at c.set_next_of.new.nodes) g c.self.inside.size ps c.args.chunk_id c.args.taken c.args.new c.args.offset c.args.kind c.args.name d in
+    let w = split_walk (held_at c.set_next_of.new.nodes) g c.self.inside.size ps c.args.chunk_id c.args.taken c.args.new c.args.offset c.args.kind c.args.label d in
     rw (c.first_of-self-inside.ensures, c.chunk_id_of.ensures)
-    (split_listed ps (walk c.self.inside.size (held_at c.set_next_of.new.nodes) (Some g)) c.args.self.now.chunks c.args.chunk_id c.args.taken c.args.new c.args.offset c.args.kind c.args.name
+    (split_listed ps (walk c.self.inside.size (held_at c.set_next_of.new.nodes) (Some g)) c.args.self.now.chunks c.args.chunk_id c.args.taken c.args.new c.args.offset c.args.kind c.args.label
     view c.self.invariant.numbered w.1)

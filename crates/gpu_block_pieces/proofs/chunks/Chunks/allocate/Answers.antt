@@ -40,10 +40,10 @@ returns-then-taken-found-clause-taken c =
     let v = ap (λ (v : LaidChunks). v.items) c.self.view_is in
     let h = subst (λ (xs : List Chunk). IsChosen xs c.args.wanted.now c.args.found) (sym v) c.requires.chosen in
     let f = chosen_fits c.self.inside.chain.chunks c.args.wanted.now c.args.found c.self.inside.chain.size c.laid_out.ensures.covers c.laid_out.ensures.bounded h in
-    front_taken c.args.self.now.items c.allocate_front.new.chain.chunks c.args.wanted.now c.args.found c.args.counter c.args.name (subst (λ (xs : List Chunk). AreDistinct xs) v c.laid_out.ensures.distinct)
+    front_taken c.args.self.now.items c.allocate_front.new.chain.chunks c.args.wanted.now c.args.found c.args.counter c.args.label (subst (λ (xs : List Chunk). AreDistinct xs) v c.laid_out.ensures.distinct)
     (c.args.found.offset + c.args.wanted.now.size - c.args.found.gap.start) refl c.if-taken-found.true f.low
     (subst (λ (xs : List Chunk). IsSplit xs c.args.found.gap.chunk_id (c.args.found.offset + c.args.wanted.now.size - c.args.found.gap.start) c.args.counter c.args.found.offset c.args.wanted.now.kind
-    c.args.name c.allocate_front.new.chain.chunks) (c.in_ok-make_room.ensures.chain.0 ∙ v) c.allocate_front.ensures.chunks)
+    c.args.label c.allocate_front.new.chain.chunks) (c.in_ok-make_room.ensures.chain.0 ∙ v) c.allocate_front.ensures.chunks)
 
 pub returns-clause-taken : goal.returns-clause-taken
 returns-clause-taken c =
@@ -51,7 +51,7 @@ returns-clause-taken c =
     let h = subst (λ (xs : List Chunk). IsChosen xs c.args.wanted.now c.args.found) (sym v) c.requires.chosen in
     let f = chosen_fits c.self.inside.chain.chunks c.args.wanted.now c.args.found c.self.inside.chain.size c.laid_out.ensures.covers c.laid_out.ensures.bounded h in
     let some = c.requires.sized in
-    whole_taken c.args.self.now.items c.allocate_whole.new.chain.chunks c.args.wanted.now c.args.found c.args.counter c.args.name (subst (λ (xs : List Chunk). AreDistinct xs) v c.laid_out.ensures.distinct)
+    whole_taken c.args.self.now.items c.allocate_whole.new.chain.chunks c.args.wanted.now c.args.found c.args.counter c.args.label (subst (λ (xs : List Chunk). AreDistinct xs) v c.laid_out.ensures.distinct)
     (omega (arith, c.if-taken-found.false)) (omega (arith, f.low, f.high))
-    (subst (λ (xs : List Chunk). IsFilled xs c.args.found.gap.chunk_id c.args.found.offset c.args.wanted.now.kind c.args.name c.allocate_whole.new.chain.chunks) (c.in_ok-make_room.ensures.chain.0 ∙ v)
+    (subst (λ (xs : List Chunk). IsFilled xs c.args.found.gap.chunk_id c.args.found.offset c.args.wanted.now.kind c.args.label c.allocate_whole.new.chain.chunks) (c.in_ok-make_room.ensures.chain.0 ∙ v)
     c.allocate_whole.ensures.chunks)

@@ -3,8 +3,9 @@ use Rattle.std.specs.Prelude.{IsSomeAnd}
 use Rattle.std.specs.Int.NonZero.{non_zero_u64_get}
 use Rattle.gpu_cost.specs.Cost.{counts_of}
 use Rattle.gpu_block_chunks.specs.ChunkList.{chunk_of}
+use Rattle.gpu_block_chunks.specs.Label.{with_name}
 use Rattle.gpu_block_pieces.specs.FreeList.{Counted}
-use Rattle.gpu_block_pieces.specs.Changes.{Renames}
+use Rattle.gpu_block_pieces.specs.Changes.{named, Renames}
 use Rattle.gpu_block_pieces.specs.Search.{LooksUpTo}
 use Rattle.gpu_block_pieces.specs.Chunks.{HoldsChunkId, free_list_of}
 use Rattle.gpu_values.specs.Refusal.{host_out_of_memory}
@@ -12,16 +13,16 @@ use Rattle.gpu_block_pieces.proofs.Sound.{sound_block}
 use Rattle.gpu_block_pieces.proofs.Ordered.{ordered_block}
 use Rattle.gpu_block_pieces.proofs.Covering.{sound_covered}
 use Rattle.gpu_block_pieces.proofs.Numbered.{rename_none, rename_live, rename_host, gap_told, none_in_view, live_in_view}
-use Rattle.gpu_block_pieces.proofs.Renaming.{Renamed, renamed, renames_separated}
+use Rattle.gpu_block_pieces.proofs.Renaming.{Relabelled, renamed, relabels_separated}
 use Rattle.gpu_block_chunks.specs.Chain.{StandsAt}
-use Rattle.gpu_block_pieces.proofs.Amounts.{bytes_of, named_bytes}
+use Rattle.gpu_block_pieces.proofs.Amounts.{bytes_of, labelled_bytes}
 use Rattle.gpu_block_pieces.proofs.FoundByChunkId.{held_at}
 use Rattle.gpu_block_pieces.proofs.Counting.{looked_up, just, both, rises}
 use Rattle.gpu_block_pieces.proofs.free_list.FreeListAllocator.rename_allocation.Goals as goal
 use Rattle.gpu_block_pieces.proofs.free_list.FreeListAllocator.rename_allocation.Goals.{After-rename, After-has_gap, In-Some-piece}
 
-the_rename : (c : After-rename) → Renamed c.self.inside.chunks.size c.self.inside.granularity c.self.inside.counter c.self.inside.chunks.items c.rename.new.self.items
-    (non_zero_u64_get c.in-Some.id) c.args.name.now
+the_rename : (c : After-rename) → Relabelled c.self.inside.chunks.size c.self.inside.granularity c.self.inside.counter c.self.inside.chunks.items c.rename.new.self.items
+    (non_zero_u64_get c.in-Some.id) (named c.args.name.now)
 the_rename c =
     let e = c.in-Some-piece.ensures.piece in
     let h = held_at c.self.inside.chunks.items (chunk_of c.in-Some-piece.piece) c.get.result e.0 e.1 in
@@ -35,7 +36,7 @@ the_bytes c =
     let e = c.in-Some-piece.ensures.piece in
     let h = subst (λ n. HoldsChunkId c.self.inside.chunks.items n (length e.1.front)) (c.get.ensures.value ∙ sym c.get-2.ensures.value)
     (held_at c.self.inside.chunks.items (chunk_of c.in-Some-piece.piece) c.get.result e.0 e.1) in
-    named_bytes c.self.inside.chunks.items c.rename.new.self.items c.get-2.result (length e.1.front) c.in_ok-new_name.new_name h (c.rename.ensures.named (length e.1.front) h)
+    labelled_bytes c.self.inside.chunks.items c.rename.new.self.items c.get-2.result (length e.1.front) (with_name c.in_ok-new_name.new_name) h (c.rename.ensures.named (length e.1.front) h)
 
 pub invariant_of-self-2 : goal.invariant_of-self-2
 invariant_of-self-2 c =
@@ -46,8 +47,8 @@ invariant_of-self-2 c =
     rw c.rename.ensures.size (
       c.self.invariant.0,
       r.are,
-      renames_separated (free_list_of i.chunks.size i.granularity i.counter i.chunks.items) (non_zero_u64_get c.in-Some.id) c.args.name.now
-          (free_list_of i.chunks.size i.granularity i.counter c.rename.new.self.items) c.self.invariant.2 r.renames,
+      relabels_separated (free_list_of i.chunks.size i.granularity i.counter i.chunks.items) (non_zero_u64_get c.in-Some.id) (named c.args.name.now)
+          (free_list_of i.chunks.size i.granularity i.counter c.rename.new.self.items) c.self.invariant.2 r.relabels,
       c.self.invariant.3,
       held ∙ sym b,
     )
@@ -57,7 +58,7 @@ returns-clause-renamed c =
     let i = c.self.inside in
     let new = free_list_of i.chunks.size i.granularity i.counter c.rename.new.self.items in
     rw c.rename.ensures.size (subst (λ o. IsSomeAnd o (λ n. Renames c.args.self.now.block (non_zero_u64_get n) c.args.name.now new)) (sym c.in-Some.is)
-    (subst (λ b. Renames b (non_zero_u64_get c.in-Some.id) c.args.name.now new) (ap (λ (v : Counted). v.block) c.self.view_is) (the_rename c).renames))
+    (subst (λ b. Renames b (non_zero_u64_get c.in-Some.id) c.args.name.now new) (ap (λ (v : Counted). v.block) c.self.view_is) (the_rename c).relabels))
 
 pub returns-clause-sound : goal.returns-clause-sound
 returns-clause-sound c =
@@ -68,8 +69,8 @@ pub returns-clause-separated : goal.returns-clause-separated
 returns-clause-separated c =
     let at = (goal.at.returns-clause-separated c).After-rename in
     let i = c.self.inside in
-    renames_separated (free_list_of i.chunks.size i.granularity i.counter i.chunks.items) (non_zero_u64_get c.in-Some.id) c.args.name.now
-    (free_list_of i.chunks.size i.granularity i.counter c.rename.new.self.items) c.self.invariant.2 (the_rename at).renames
+    relabels_separated (free_list_of i.chunks.size i.granularity i.counter i.chunks.items) (non_zero_u64_get c.in-Some.id) (named c.args.name.now)
+    (free_list_of i.chunks.size i.granularity i.counter c.rename.new.self.items) c.self.invariant.2 (the_rename at).relabels
 
 -- ---- the refusals
 
@@ -121,6 +122,7 @@ rename-requires c =
         live = e.0;
         offset_is = refl;
         kind_is = refl;
+        word_is = refl;
       };
     }
 

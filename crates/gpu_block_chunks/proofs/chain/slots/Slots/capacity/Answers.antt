@@ -7,5 +7,5 @@ returns c =
     let counted = c.self.invariant.sound.counted in
     let total = c.self.invariant.sound.total in
     let named = c.self.invariant.named in
-    let long = length-slots c.self.inside.cells.items c.self.inside.names.items named in
+    let long = length-slots c.self.inside.cells.items c.self.inside.labels.items named in
     rw (← c.self.view_is) (omega arith)

@@ -5,28 +5,28 @@ use Rattle.gpu_block_chunks.proofs.chain.slots.Slots.cut_front.Goals as goal
 
 pub index_mut-cell-requires : goal.index_mut-cell-requires
 index_mut-cell-requires c =
-    let inside = within c.self.inside.cells.items c.self.inside.names.items c.self.inside.live c.self.inside.free c.self.invariant c.args.slot (some_of _ _ (rw (← c.self.view_is) at c.requires.longer)) in
+    let inside = within c.self.inside.cells.items c.self.inside.labels.items c.self.inside.live c.self.inside.free c.self.invariant c.args.slot (some_of _ _ (rw (← c.self.view_is) at c.requires.longer)) in
     omega arith
 
 pub invariant_of-self : goal.invariant_of-self
 invariant_of-self c =
-    cell_sound c.self.inside.cells.items c.self.inside.names.items c.self.inside.live c.self.inside.free c.self.invariant c.args.slot (some_of _ _ (rw (← c.self.view_is) at c.requires.longer))
+    cell_sound c.self.inside.cells.items c.self.inside.labels.items c.self.inside.live c.self.inside.free c.self.invariant c.args.slot (some_of _ _ (rw (← c.self.view_is) at c.requires.longer))
     c.index_mut-cell.result.now c.index_mut-cell.ensures.value _ (cut_linked c.args.cut c.new-cell.result) refl refl
 
 pub returns-clause-changes : goal.returns-clause-changes
 returns-clause-changes c =
     rw (← c.self.view_is, ← c.new-cell.ensures) (stored_changed _ _ _ c.args.slot (cut_linked c.args.cut c.new-cell.result)
-    (cell_is c.self.inside.cells.items c.self.inside.names.items c.self.inside.live c.self.inside.free c.self.invariant c.args.slot (some_of _ _ (rw (← c.self.view_is) at c.requires.longer))
+    (cell_is c.self.inside.cells.items c.self.inside.labels.items c.self.inside.live c.self.inside.free c.self.invariant c.args.slot (some_of _ _ (rw (← c.self.view_is) at c.requires.longer))
     c.index_mut-cell.result.now c.index_mut-cell.ensures.value _ (cut_linked c.args.cut c.new-cell.result) refl refl))
 
 pub returns-clause-count : goal.returns-clause-count
 returns-clause-count c =
-    rw (← c.self.view_is) (cell_count c.self.inside.cells.items c.self.inside.names.items c.self.inside.live c.self.inside.free c.self.invariant c.args.slot (some_of _ _ (rw (← c.self.view_is) at c.requires.longer))
+    rw (← c.self.view_is) (cell_count c.self.inside.cells.items c.self.inside.labels.items c.self.inside.live c.self.inside.free c.self.invariant c.args.slot (some_of _ _ (rw (← c.self.view_is) at c.requires.longer))
     c.index_mut-cell.result.now c.index_mut-cell.ensures.value _ (cut_linked c.args.cut c.new-cell.result) refl refl)
 
 pub overflow_add-start : goal.overflow_add-start
 overflow_add-start c =
-    let fits = read_and c.self.inside.cells.items c.self.inside.names.items c.self.inside.live c.self.inside.free c.self.invariant c.args.slot (some_of _ _ (rw (← c.self.view_is) at c.requires.longer))
+    let fits = read_and c.self.inside.cells.items c.self.inside.labels.items c.self.inside.live c.self.inside.free c.self.invariant c.args.slot (some_of _ _ (rw (← c.self.view_is) at c.requires.longer))
     c.index_mut-cell.result.now c.index_mut-cell.ensures.value _ (rw (← c.self.view_is) at c.requires.longer) in
     let less = fits.0 in
     let below = fits.1 in
@@ -34,7 +34,7 @@ overflow_add-start c =
 
 pub overflow_sub-cell : goal.overflow_sub-cell
 overflow_sub-cell c =
-    let fits = read_and c.self.inside.cells.items c.self.inside.names.items c.self.inside.live c.self.inside.free c.self.invariant c.args.slot (some_of _ _ (rw (← c.self.view_is) at c.requires.longer))
+    let fits = read_and c.self.inside.cells.items c.self.inside.labels.items c.self.inside.live c.self.inside.free c.self.invariant c.args.slot (some_of _ _ (rw (← c.self.view_is) at c.requires.longer))
     c.index_mut-cell.result.now c.index_mut-cell.ensures.value _ (rw (← c.self.view_is) at c.requires.longer) in
     let less = fits.0 in
     let below = fits.1 in

@@ -11,15 +11,15 @@ pub overflow_sub-free : goal.overflow_sub-free
 overflow_sub-free c =
     let total = c.self.invariant.sound.total in
     let named = c.self.invariant.named in
-    let long = length-slots c.self.inside.cells.items c.self.inside.names.items named in
+    let long = length-slots c.self.inside.cells.items c.self.inside.labels.items named in
     omega arith
 
 pub returns-clause-room : goal.returns-clause-room
 returns-clause-room c =
     let total = c.self.invariant.sound.total in
     let named = c.self.invariant.named in
-    let long = length-slots c.self.inside.cells.items c.self.inside.names.items named in
-    let names = c.in_ok-reserve_exact.ensures.ok in
+    let long = length-slots c.self.inside.cells.items c.self.inside.labels.items named in
+    let labels = c.in_ok-reserve_exact.ensures.ok in
     let kept = c.in_ok-reserve_exact.ensures.len in
     let same = c.reserve_exact-2.ensures.len in
     on_ok c.reserve_exact-2.result _ _ (λ cells. omega arith) c.reserve_exact-2.ensures.ok

@@ -6,5 +6,5 @@ pub overflow_sub-result : goal.overflow_sub-result
 overflow_sub-result c =
     let total = c.self.invariant.sound.total in
     let named = c.self.invariant.named in
-    let long = length-slots c.self.inside.cells.items c.self.inside.names.items named in
+    let long = length-slots c.self.inside.cells.items c.self.inside.labels.items named in
     omega arith

@@ -5,21 +5,21 @@ use Rattle.gpu_block_chunks.proofs.chain.slots.Slots.set_next.Goals as goal
 
 pub index_mut-requires : goal.index_mut-requires
 index_mut-requires c =
-    let inside = within c.self.inside.cells.items c.self.inside.names.items c.self.inside.live c.self.inside.free c.self.invariant c.args.slot (rw (← c.self.view_is) at c.requires.there) in
+    let inside = within c.self.inside.cells.items c.self.inside.labels.items c.self.inside.live c.self.inside.free c.self.invariant c.args.slot (rw (← c.self.view_is) at c.requires.there) in
     omega arith
 
 pub invariant_of-self : goal.invariant_of-self
 invariant_of-self c =
-    cell_sound c.self.inside.cells.items c.self.inside.names.items c.self.inside.live c.self.inside.free c.self.invariant c.args.slot (rw (← c.self.view_is) at c.requires.there)
+    cell_sound c.self.inside.cells.items c.self.inside.labels.items c.self.inside.live c.self.inside.free c.self.invariant c.args.slot (rw (← c.self.view_is) at c.requires.there)
     c.index_mut.result.now c.index_mut.ensures.value _ (linked_next c.new.result) refl refl
 
 pub returns-clause-changes : goal.returns-clause-changes
 returns-clause-changes c =
     rw (← c.self.view_is, ← c.new.ensures) (stored_changed _ _ _ c.args.slot (linked_next c.new.result)
-    (cell_is c.self.inside.cells.items c.self.inside.names.items c.self.inside.live c.self.inside.free c.self.invariant c.args.slot (rw (← c.self.view_is) at c.requires.there)
+    (cell_is c.self.inside.cells.items c.self.inside.labels.items c.self.inside.live c.self.inside.free c.self.invariant c.args.slot (rw (← c.self.view_is) at c.requires.there)
     c.index_mut.result.now c.index_mut.ensures.value _ (linked_next c.new.result) refl refl))
 
 pub returns-clause-count : goal.returns-clause-count
 returns-clause-count c =
-    rw (← c.self.view_is) (cell_count c.self.inside.cells.items c.self.inside.names.items c.self.inside.live c.self.inside.free c.self.invariant c.args.slot (rw (← c.self.view_is) at c.requires.there)
+    rw (← c.self.view_is) (cell_count c.self.inside.cells.items c.self.inside.labels.items c.self.inside.live c.self.inside.free c.self.invariant c.args.slot (rw (← c.self.view_is) at c.requires.there)
     c.index_mut.result.now c.index_mut.ensures.value _ (linked_next c.new.result) refl refl)
