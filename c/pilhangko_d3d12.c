@@ -167,19 +167,28 @@ static pilhangko_heaps_request asks_for(const pilhangko_d3d12_request *request) 
     return asks;
 }
 
+/* Keeps another word with a live allocation, and with its piece, where it has one, for those who visit that. */
+static void keep_word(struct binding *b, struct live *it, uint64_t word) {
+    if (!it->is_committed) {
+        const pilhangko_status status = pilhangko_heaps_set_word(&b->heaps, &it->piece, word);
+        (void)status; /* the piece is live, and no question is open */
+    }
+    it->word = word;
+}
+
 /* Keeps a piece as a live allocation, and tells it. */
-static struct live *keep_piece(struct binding *b, const pilhangko_heaps_piece *piece, pilhangko_d3d12_allocation *allocation) {
+static void keep_piece(struct binding *b, const pilhangko_heaps_piece *piece, uint64_t word, pilhangko_d3d12_allocation *allocation) {
     struct live *it = keep(b, allocation);
     it->piece = *piece;
+    if (word != 0) keep_word(b, it, word);
     allocation->heap = heap_of(piece->piece.block);
     allocation->offset = piece->piece.offset;
     allocation->size = piece->piece.size;
     allocation->piece = *piece;
-    return it;
 }
 
 static pilhangko_d3d12_result allocate_alone(
-    struct binding *b, const pilhangko_heaps_request *request, const char *name, pilhangko_d3d12_allocation *allocation) {
+    struct binding *b, const pilhangko_heaps_request *request, const char *name, uint64_t word, pilhangko_d3d12_allocation *allocation) {
     pilhangko_heaps_progress progress;
     struct asked asked = {{false, 0}, 0, S_OK};
     pilhangko_status status;
@@ -190,14 +199,14 @@ static pilhangko_d3d12_result allocate_alone(
     if (status == PILHANGKO_OK) status = progress.status;
     capture_allocation(b, request, name, status, &asked);
     if (status != PILHANGKO_OK) return refused_by(b->driver.device, status, asked.driver);
-    (void)keep_piece(b, &progress.piece, allocation);
+    keep_piece(b, &progress.piece, word, allocation);
     return undriven(PILHANGKO_OK);
 }
 
-static pilhangko_d3d12_result allocate(
-    struct binding *binding, const pilhangko_heaps_request *request, const char *name, pilhangko_d3d12_allocation *allocation) {
+static pilhangko_d3d12_result allocate(struct binding *binding, const pilhangko_heaps_request *request, const char *name, uint64_t word,
+    pilhangko_d3d12_allocation *allocation) {
     struct binding *b = enter(binding);
-    const pilhangko_d3d12_result result = allocate_alone(b, request, name, allocation);
+    const pilhangko_d3d12_result result = allocate_alone(b, request, name, word, allocation);
     leave(b);
     return result;
 }
@@ -250,7 +259,7 @@ static pilhangko_status propose_alone(struct binding *b, const pilhangko_d3d12_a
     if (status != PILHANGKO_OK) return status;
     capture_proposal(b, first.serial, &asks, request->name);
     if (!*moves) return PILHANGKO_OK;
-    keep_piece(b, &place, to)->word = first.word;
+    keep_piece(b, &place, first.word, to);
     return PILHANGKO_OK;
 }
 
@@ -272,7 +281,7 @@ pilhangko_d3d12_result PILHANGKO_CALL pilhangko_d3d12_allocate(
     if (!d3d12 || !request || !allocation) return undriven(PILHANGKO_NULL_POINTER);
     if (!d3d12->opaque) return undriven(PILHANGKO_NO_HANDLE);
     asks = asks_for(request);
-    return allocate(binding_of(d3d12), &asks, request->name, allocation);
+    return allocate(binding_of(d3d12), &asks, request->name, request->user_data, allocation);
 }
 
 pilhangko_status PILHANGKO_CALL pilhangko_d3d12_free(pilhangko_d3d12 *d3d12, const pilhangko_d3d12_allocation *allocation) {
@@ -315,7 +324,7 @@ pilhangko_status PILHANGKO_CALL pilhangko_d3d12_set_user_data(
     if (!d3d12->opaque) return PILHANGKO_NO_HANDLE;
     b = enter(binding_of(d3d12));
     it = find(b, allocation);
-    if (it) it->word = word;
+    if (it) keep_word(b, it, word);
     leave(b);
     return it ? PILHANGKO_OK : PILHANGKO_NOT_LIVE;
 }
@@ -381,6 +390,7 @@ pilhangko_status PILHANGKO_CALL pilhangko_d3d12_read_request(const pilhangko_d3d
     request->location = location;
     request->category = category_of(desc);
     request->name = name;
+    request->user_data = 0;
     return PILHANGKO_OK;
 }
 
@@ -424,7 +434,8 @@ static pilhangko_d3d12_result place_at(
 
 static pilhangko_d3d12_result create_placed(
     struct binding *b, const struct wanted *wanted, ID3D12Resource **resource, pilhangko_d3d12_allocation *allocation) {
-    pilhangko_d3d12_result result = allocate(b, &wanted->needs, wanted->placement->name, allocation);
+    const pilhangko_d3d12_placement *p = wanted->placement;
+    pilhangko_d3d12_result result = allocate(b, &wanted->needs, p->name, p->user_data, allocation);
     if (result.status != PILHANGKO_OK) return result;
     result = place_at(b, wanted, allocation->heap, allocation->offset, resource);
     if (result.status != PILHANGKO_OK) (void)free_allocation(b, allocation);
@@ -475,6 +486,7 @@ static pilhangko_d3d12_result create_committed_alone(
     it = keep(b, allocation);
     it->is_committed = true;
     it->committed = record;
+    it->word = wanted->placement->user_data;
     allocation->size = record.size;
     return undriven(PILHANGKO_OK);
 }

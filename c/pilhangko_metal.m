@@ -92,12 +92,21 @@ static bool find_copy(const struct binding *binding, const pilhangko_metal_alloc
     return it != NULL;
 }
 
+/* Keeps another word with a live allocation, and with its piece, for those who visit that. */
+static void keep_word(struct binding *b, struct live *it, uint64_t word) {
+    const pilhangko_status status = pilhangko_metal_heaps_set_word(&b->heaps, &it->piece, word);
+    (void)status; /* the piece is live, and no question is open */
+    it->word = word;
+}
+
 /* Keeps a piece as a live allocation, and tells it. */
-static void keep_allocation(struct binding *b, const pilhangko_heaps_piece *piece, pilhangko_metal_allocation *allocation) {
+static void keep_allocation(
+    struct binding *b, const pilhangko_heaps_piece *piece, uint64_t word, pilhangko_metal_allocation *allocation) {
     const uint32_t index = spare_record(&b->live);
     struct live *it = (struct live *)record_of(&b->live, index);
     it->serial = ++b->last_serial;
     it->piece = *piece;
+    if (word != 0) keep_word(b, it, word);
     b->live_count++;
     allocation->heap = LENT(id<MTLHeap>, piece->piece.block);
     allocation->offset = piece->piece.offset;
@@ -212,7 +221,7 @@ static pilhangko_status allocate_alone(
     if (status == PILHANGKO_OK && progress.kind == PILHANGKO_PROGRESS_QUESTION) status = ask_heap(b, &asked, &progress);
     if (status == PILHANGKO_OK) status = progress.status;
     capture_allocation(b, &asks, request->name, status, &asked);
-    if (status == PILHANGKO_OK) keep_allocation(b, &progress.piece, allocation);
+    if (status == PILHANGKO_OK) keep_allocation(b, &progress.piece, request->user_data, allocation);
     return status;
 }
 
@@ -277,8 +286,7 @@ static pilhangko_status propose_alone(struct binding *b, const pilhangko_metal_a
     if (status != PILHANGKO_OK) return status;
     capture_proposal(b, first.serial, &asks, request->name);
     if (!*moves) return PILHANGKO_OK;
-    keep_allocation(b, &place, to);
-    ((struct live *)record_of(&b->live, to->index))->word = first.word;
+    keep_allocation(b, &place, first.word, to);
     return PILHANGKO_OK;
 }
 
@@ -340,7 +348,7 @@ pilhangko_status PILHANGKO_CALL pilhangko_metal_set_user_data(
     if (!metal->opaque) return PILHANGKO_NO_HANDLE;
     b = enter(binding_of(metal));
     it = find(b, allocation);
-    if (it) it->word = word;
+    if (it) keep_word(b, it, word);
     leave(b);
     return it ? PILHANGKO_OK : PILHANGKO_NOT_LIVE;
 }
@@ -400,24 +408,25 @@ static MTLResourceOptions options_for(pilhangko_location location) {
     }
 }
 
-static void tell_request(MTLSizeAndAlign needs, pilhangko_location location, const char *name, pilhangko_metal_request *request) {
+static void tell_request(MTLSizeAndAlign needs, const pilhangko_metal_placement *p, pilhangko_metal_request *request) {
     request->size = needs.size;
     request->alignment = needs.align;
-    request->location = location;
-    request->name = name;
+    request->location = p->location;
+    request->name = p->name;
+    request->user_data = p->user_data;
 }
 
 static void read_buffer(const struct binding *b, NSUInteger length, const pilhangko_metal_placement *p, pilhangko_metal_request *request) {
-    tell_request([device_of(b) heapBufferSizeAndAlignWithLength:length options:options_for(p->location)], p->location, p->name, request);
+    tell_request([device_of(b) heapBufferSizeAndAlignWithLength:length options:options_for(p->location)], p, request);
 }
 
 static void read_structure(const struct binding *b, NSUInteger size, const pilhangko_metal_placement *p, pilhangko_metal_request *request) {
-    tell_request([device_of(b) heapAccelerationStructureSizeAndAlignWithSize:size], p->location, p->name, request);
+    tell_request([device_of(b) heapAccelerationStructureSizeAndAlignWithSize:size], p, request);
 }
 
 static void read_texture(
     const struct binding *b, MTLTextureDescriptor *descriptor, const pilhangko_metal_placement *p, pilhangko_metal_request *request) {
-    tell_request([device_of(b) heapTextureSizeAndAlignWithDescriptor:descriptor], p->location, p->name, request);
+    tell_request([device_of(b) heapTextureSizeAndAlignWithDescriptor:descriptor], p, request);
 }
 
 /* A copy of the caller's descriptor with the options of a heap, or nil. */
@@ -429,7 +438,7 @@ WITH_REFERENCE static MTLTextureDescriptor *descriptor_with(MTLTextureDescriptor
 
 pilhangko_status PILHANGKO_CALL pilhangko_metal_read_buffer_request(const pilhangko_metal *metal, NSUInteger length,
     pilhangko_location location, const char *name, pilhangko_metal_request *request) {
-    const pilhangko_metal_placement p = {location, name};
+    const pilhangko_metal_placement p = {location, name, 0};
     if (!metal || !request) return PILHANGKO_NULL_POINTER;
     if (!metal->opaque) return PILHANGKO_NO_HANDLE;
     read_buffer(binding_of(metal), length, &p, request);
@@ -438,7 +447,7 @@ pilhangko_status PILHANGKO_CALL pilhangko_metal_read_buffer_request(const pilhan
 
 pilhangko_status PILHANGKO_CALL pilhangko_metal_read_texture_request(const pilhangko_metal *metal, MTLTextureDescriptor *descriptor,
     pilhangko_location location, const char *name, pilhangko_metal_request *request) {
-    const pilhangko_metal_placement p = {location, name};
+    const pilhangko_metal_placement p = {location, name, 0};
     MTLTextureDescriptor *own;
     if (!metal || !descriptor || !request) return PILHANGKO_NULL_POINTER;
     if (!metal->opaque) return PILHANGKO_NO_HANDLE;
@@ -451,7 +460,7 @@ pilhangko_status PILHANGKO_CALL pilhangko_metal_read_texture_request(const pilha
 
 pilhangko_status PILHANGKO_CALL pilhangko_metal_read_acceleration_structure_request(const pilhangko_metal *metal, NSUInteger size,
     pilhangko_location location, const char *name, pilhangko_metal_request *request) {
-    const pilhangko_metal_placement p = {location, name};
+    const pilhangko_metal_placement p = {location, name, 0};
     if (!metal || !request) return PILHANGKO_NULL_POINTER;
     if (!metal->opaque) return PILHANGKO_NO_HANDLE;
     read_structure(binding_of(metal), size, &p, request);

@@ -175,14 +175,21 @@ static pilhangko_status ask(
 
 /* ---- memory ---- */
 
+/* Keeps another word with a live allocation, and with its piece, for those who visit that. */
+static void keep_word(struct binding *b, struct live *it, uint64_t user_data) {
+    const pilhangko_status status = pilhangko_allocator_set_word(&b->allocator, &it->piece, user_data);
+    (void)status; /* the piece is live, and no question is open */
+    it->user_data = user_data;
+}
+
 /* Keeps a piece as a live allocation, and tells it. */
-static void keep_allocation(
-    struct binding *b, const pilhangko_allocator_piece *piece, bool dedicated, pilhangko_vulkan_allocation *allocation) {
+static void keep_allocation(struct binding *b, const pilhangko_allocator_piece *piece, uint64_t user_data, bool dedicated,
+    pilhangko_vulkan_allocation *allocation) {
     const uint32_t index = spare_record(&b->live);
     struct live *it = (struct live *)record_of(&b->live, index);
     it->serial = ++b->last_serial;
     it->piece = *piece;
-    it->user_data = 0;
+    if (user_data != 0) keep_word(b, it, user_data);
     b->live_count++;
     allocation->memory = (VkDeviceMemory)piece->piece.block;
     allocation->offset = piece->piece.offset;
@@ -227,7 +234,7 @@ static pilhangko_vulkan_result allocate_alone(
     if (wanted.by_flags && is_refused_last(&asked)) forget_questions(&asked); /* the last one's place was there */
     capture_call(b, &wanted, bounds, status, status == PILHANGKO_OK ? progress.piece.memory_type : 0, &asked);
     if (status != PILHANGKO_OK) return result_of(status, asked.driver);
-    keep_allocation(b, &progress.piece, wanted.asks.scheme != PILHANGKO_SCHEME_MANAGED, allocation);
+    keep_allocation(b, &progress.piece, request->user_data, wanted.asks.scheme != PILHANGKO_SCHEME_MANAGED, allocation);
     return undriven(PILHANGKO_OK);
 }
 
@@ -283,8 +290,7 @@ static pilhangko_status propose_alone(struct binding *b, const pilhangko_vulkan_
     if (status != PILHANGKO_OK) return status;
     capture_proposal(b, first.serial, &wanted);
     if (!*moves) return PILHANGKO_OK;
-    keep_allocation(b, &place, false, to);
-    ((struct live *)record_of(&b->live, to->index))->user_data = first.user_data;
+    keep_allocation(b, &place, first.user_data, false, to);
     return PILHANGKO_OK;
 }
 
@@ -379,7 +385,7 @@ pilhangko_status PILHANGKO_CALL pilhangko_vulkan_set_user_data(
     if (!vulkan->opaque) return PILHANGKO_NO_HANDLE;
     b = enter(binding_of(vulkan));
     it = (struct live *)find(b, allocation);
-    if (it) it->user_data = user_data;
+    if (it) keep_word(b, it, user_data);
     leave(b);
     return it ? PILHANGKO_OK : PILHANGKO_NOT_LIVE;
 }

@@ -27,6 +27,7 @@ static inline pilhangko_vulkan_request request_for(const pilhangko_vulkan_placem
     request.preferred_flags = placement->preferred_flags;
     request.avoided_flags = placement->avoided_flags;
     request.never_allocate = placement->never_allocate;
+    request.user_data = placement->user_data;
     return request;
 }
 

@@ -21,10 +21,9 @@ struct mesh {
 
 /* A mesh that the host writes and the GPU reads. */
 static void load(pilhangko_metal *metal, struct mesh *mesh, unsigned number) {
-    const pilhangko_metal_placement placement = {PILHANGKO_LOCATION_CPU_TO_GPU, "mesh"};
+    const pilhangko_metal_placement placement = {PILHANGKO_LOCATION_CPU_TO_GPU, "mesh", number};
     check(pilhangko_metal_create_buffer(metal, MESH_BYTES, &placement, &mesh->buffer, &mesh->allocation));
     memset([mesh->buffer contents], (int)(number % 256), MESH_BYTES);
-    check(pilhangko_metal_set_user_data(metal, &mesh->allocation, number));
 }
 
 /* Once the GPU is through with it. */
@@ -35,7 +34,7 @@ static void unload(pilhangko_metal *metal, struct mesh *mesh) {
 
 /* A texture that the GPU alone sees. */
 static void draw(pilhangko_metal *metal) {
-    const pilhangko_metal_placement placement = {PILHANGKO_LOCATION_GPU_ONLY, "target"};
+    const pilhangko_metal_placement placement = {PILHANGKO_LOCATION_GPU_ONLY, "target", 0};
     MTLTextureDescriptor *descriptor = [[MTLTextureDescriptor alloc] init];
     id<MTLTexture> target = nil;
     pilhangko_metal_allocation allocation;

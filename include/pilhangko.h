@@ -223,6 +223,7 @@ typedef struct pilhangko_piece_view {
     uint64_t offset;
     uint64_t end;
     pilhangko_kind kind;
+    uint64_t word; /* the caller's; 0 until it is set */
 } pilhangko_piece_view;
 
 /* ---- Rings: one block of a size, whose pieces go to the next place and are freed a frame at a time. Numbers alone, as above. ---- */
@@ -684,6 +685,8 @@ PILHANGKO_NODISCARD PILHANGKO_API pilhangko_status PILHANGKO_CALL pilhangko_raw_
     pilhangko_virtual_block *block, const pilhangko_virtual_piece *piece);
 PILHANGKO_NODISCARD PILHANGKO_API pilhangko_status PILHANGKO_CALL pilhangko_raw_virtual_block_rename(
     pilhangko_virtual_block *block, const pilhangko_virtual_piece *piece, const char *name, size_t name_length);
+PILHANGKO_NODISCARD PILHANGKO_API pilhangko_status PILHANGKO_CALL pilhangko_raw_virtual_block_set_word(
+    pilhangko_virtual_block *block, const pilhangko_virtual_piece *piece, uint64_t word);
 PILHANGKO_NODISCARD PILHANGKO_API pilhangko_status PILHANGKO_CALL pilhangko_raw_virtual_block_clear(pilhangko_virtual_block *block);
 PILHANGKO_NODISCARD PILHANGKO_API pilhangko_status PILHANGKO_CALL pilhangko_raw_virtual_block_statistics(
     const pilhangko_virtual_block *block, pilhangko_virtual_statistics *statistics);
@@ -723,6 +726,8 @@ PILHANGKO_NODISCARD PILHANGKO_API pilhangko_status PILHANGKO_CALL pilhangko_raw_
     pilhangko_memory_type *type, const pilhangko_memory_piece *piece, pilhangko_memory_block *gone);
 PILHANGKO_NODISCARD PILHANGKO_API pilhangko_status PILHANGKO_CALL pilhangko_raw_memory_type_rename(
     pilhangko_memory_type *type, const pilhangko_memory_piece *piece, const char *name, size_t name_length);
+PILHANGKO_NODISCARD PILHANGKO_API pilhangko_status PILHANGKO_CALL pilhangko_raw_memory_type_set_word(
+    pilhangko_memory_type *type, const pilhangko_memory_piece *piece, uint64_t word);
 PILHANGKO_NODISCARD PILHANGKO_API pilhangko_status PILHANGKO_CALL pilhangko_raw_memory_type_is_live(
     const pilhangko_memory_type *type, const pilhangko_memory_piece *piece, bool *is_live);
 PILHANGKO_NODISCARD PILHANGKO_API pilhangko_status PILHANGKO_CALL pilhangko_raw_memory_type_set_budget(
@@ -765,6 +770,8 @@ PILHANGKO_NODISCARD PILHANGKO_API pilhangko_status PILHANGKO_CALL pilhangko_raw_
     pilhangko_allocator_piece *to);
 PILHANGKO_NODISCARD PILHANGKO_API pilhangko_status PILHANGKO_CALL pilhangko_raw_allocator_rename(
     pilhangko_allocator *allocator, const pilhangko_allocator_piece *piece, const char *name, size_t name_length);
+PILHANGKO_NODISCARD PILHANGKO_API pilhangko_status PILHANGKO_CALL pilhangko_raw_allocator_set_word(
+    pilhangko_allocator *allocator, const pilhangko_allocator_piece *piece, uint64_t word);
 PILHANGKO_NODISCARD PILHANGKO_API pilhangko_status PILHANGKO_CALL pilhangko_raw_allocator_is_live(
     const pilhangko_allocator *allocator, const pilhangko_allocator_piece *piece, bool *is_live);
 PILHANGKO_NODISCARD PILHANGKO_API pilhangko_status PILHANGKO_CALL pilhangko_raw_allocator_set_budget(
@@ -820,6 +827,8 @@ PILHANGKO_NODISCARD PILHANGKO_API pilhangko_status PILHANGKO_CALL pilhangko_raw_
     pilhangko_heaps_piece *to);
 PILHANGKO_NODISCARD PILHANGKO_API pilhangko_status PILHANGKO_CALL pilhangko_raw_heaps_rename(
     pilhangko_heaps *heaps, const pilhangko_heaps_piece *piece, const char *name, size_t name_length);
+PILHANGKO_NODISCARD PILHANGKO_API pilhangko_status PILHANGKO_CALL pilhangko_raw_heaps_set_word(
+    pilhangko_heaps *heaps, const pilhangko_heaps_piece *piece, uint64_t word);
 PILHANGKO_NODISCARD PILHANGKO_API pilhangko_status PILHANGKO_CALL pilhangko_raw_heaps_is_live(
     const pilhangko_heaps *heaps, const pilhangko_heaps_piece *piece, bool *is_live);
 PILHANGKO_NODISCARD PILHANGKO_API pilhangko_status PILHANGKO_CALL pilhangko_raw_heaps_begin_committed(
@@ -874,6 +883,8 @@ PILHANGKO_NODISCARD PILHANGKO_API pilhangko_status PILHANGKO_CALL pilhangko_raw_
     pilhangko_heaps_piece *to);
 PILHANGKO_NODISCARD PILHANGKO_API pilhangko_status PILHANGKO_CALL pilhangko_raw_metal_heaps_rename(
     pilhangko_metal_heaps *heaps, const pilhangko_heaps_piece *piece, const char *name, size_t name_length);
+PILHANGKO_NODISCARD PILHANGKO_API pilhangko_status PILHANGKO_CALL pilhangko_raw_metal_heaps_set_word(
+    pilhangko_metal_heaps *heaps, const pilhangko_heaps_piece *piece, uint64_t word);
 PILHANGKO_NODISCARD PILHANGKO_API pilhangko_status PILHANGKO_CALL pilhangko_raw_metal_heaps_is_live(
     const pilhangko_metal_heaps *heaps, const pilhangko_heaps_piece *piece, bool *is_live);
 PILHANGKO_NODISCARD PILHANGKO_API pilhangko_status PILHANGKO_CALL pilhangko_raw_metal_heaps_set_budget(
@@ -1085,6 +1096,15 @@ PILHANGKO_NODISCARD static inline pilhangko_status pilhangko_virtual_block_renam
     return pilhangko_raw_virtual_block_rename(block, piece, pilhangko_name_bytes(name), pilhangko_name_length(name));
 }
 
+/* Keeps a word of the caller's with a live piece, in place of the last one: the address of what lies there, say, so that a visit of the pieces
+ * leads to it. A new piece has 0, a rename keeps it, and it goes with the piece. The library doesn't look at it.
+ * NO_HANDLE. NOT_LIVE. */
+PILHANGKO_NODISCARD static inline pilhangko_status pilhangko_virtual_block_set_word(
+    pilhangko_virtual_block *block, const pilhangko_virtual_piece *piece, uint64_t word) {
+    if (!block || !piece) return PILHANGKO_NULL_POINTER;
+    return pilhangko_raw_virtual_block_set_word(block, piece, word);
+}
+
 /* Frees all pieces: the block is as create made it.
  * NO_HANDLE. HOST_OUT_OF_MEMORY: for the new, empty bookkeeping; all pieces stay. */
 PILHANGKO_NODISCARD static inline pilhangko_status pilhangko_virtual_block_clear(pilhangko_virtual_block *block) {
@@ -1282,6 +1302,14 @@ PILHANGKO_NODISCARD static inline pilhangko_status pilhangko_memory_type_rename(
     return pilhangko_raw_memory_type_rename(type, piece, pilhangko_name_bytes(name), pilhangko_name_length(name));
 }
 
+/* Keeps a word of the caller's with a live piece, as with a virtual block.
+ * NO_HANDLE. AWAITS_BLOCK. NOT_LIVE. */
+PILHANGKO_NODISCARD static inline pilhangko_status pilhangko_memory_type_set_word(
+    pilhangko_memory_type *type, const pilhangko_memory_piece *piece, uint64_t word) {
+    if (!type || !piece) return PILHANGKO_NULL_POINTER;
+    return pilhangko_raw_memory_type_set_word(type, piece, word);
+}
+
 /* Whether a piece is live.
  * NO_HANDLE. */
 PILHANGKO_NODISCARD static inline pilhangko_status pilhangko_memory_type_is_live(
@@ -1464,6 +1492,14 @@ PILHANGKO_NODISCARD static inline pilhangko_status pilhangko_allocator_rename(
     pilhangko_allocator *allocator, const pilhangko_allocator_piece *piece, const char *name) {
     if (!allocator || !piece) return PILHANGKO_NULL_POINTER;
     return pilhangko_raw_allocator_rename(allocator, piece, pilhangko_name_bytes(name), pilhangko_name_length(name));
+}
+
+/* Keeps a word of the caller's with a live piece, as with a virtual block.
+ * NO_HANDLE. AWAITS_ANSWER. NOT_LIVE. */
+PILHANGKO_NODISCARD static inline pilhangko_status pilhangko_allocator_set_word(
+    pilhangko_allocator *allocator, const pilhangko_allocator_piece *piece, uint64_t word) {
+    if (!allocator || !piece) return PILHANGKO_NULL_POINTER;
+    return pilhangko_raw_allocator_set_word(allocator, piece, word);
 }
 
 /* Whether a piece is live.
@@ -1725,6 +1761,14 @@ PILHANGKO_NODISCARD static inline pilhangko_status pilhangko_heaps_rename(
     return pilhangko_raw_heaps_rename(heaps, piece, pilhangko_name_bytes(name), pilhangko_name_length(name));
 }
 
+/* Keeps a word of the caller's with a live piece, as with a virtual block.
+ * NO_HANDLE. AWAITS_ANSWER. NOT_LIVE. */
+PILHANGKO_NODISCARD static inline pilhangko_status pilhangko_heaps_set_word(
+    pilhangko_heaps *heaps, const pilhangko_heaps_piece *piece, uint64_t word) {
+    if (!heaps || !piece) return PILHANGKO_NULL_POINTER;
+    return pilhangko_raw_heaps_set_word(heaps, piece, word);
+}
+
 /* Whether a piece is live.
  * NO_HANDLE. */
 PILHANGKO_NODISCARD static inline pilhangko_status pilhangko_heaps_is_live(
@@ -1981,6 +2025,14 @@ PILHANGKO_NODISCARD static inline pilhangko_status pilhangko_metal_heaps_rename(
     pilhangko_metal_heaps *heaps, const pilhangko_heaps_piece *piece, const char *name) {
     if (!heaps || !piece) return PILHANGKO_NULL_POINTER;
     return pilhangko_raw_metal_heaps_rename(heaps, piece, pilhangko_name_bytes(name), pilhangko_name_length(name));
+}
+
+/* Keeps a word of the caller's with a live piece, as with a virtual block.
+ * NO_HANDLE. AWAITS_ANSWER. NOT_LIVE. */
+PILHANGKO_NODISCARD static inline pilhangko_status pilhangko_metal_heaps_set_word(
+    pilhangko_metal_heaps *heaps, const pilhangko_heaps_piece *piece, uint64_t word) {
+    if (!heaps || !piece) return PILHANGKO_NULL_POINTER;
+    return pilhangko_raw_metal_heaps_set_word(heaps, piece, word);
 }
 
 /* Whether a piece is live.

@@ -115,7 +115,8 @@ typedef struct pilhangko_d3d12_request {
     UINT64 alignment; /* a power of two */
     pilhangko_location location;
     pilhangko_category category;
-    const char *name; /* copied; NULL for none */
+    const char *name;   /* copied; NULL for none */
+    uint64_t user_data; /* the word of the caller's that it begins with */
 } pilhangko_d3d12_request;
 
 /* An allocation: place resources in heap, at offset. The heap is lent, and lives as long as the allocation; a committed resource has none,
@@ -132,7 +133,7 @@ typedef struct pilhangko_d3d12_allocation {
     uint32_t index;  /* the library's own */
 } pilhangko_d3d12_allocation;
 
-/* What a resource needs: GetResourceAllocationInfo's size and alignment, and its category. name is handed on.
+/* What a resource needs: GetResourceAllocationInfo's size and alignment, and its category. name is handed on; the word is 0.
  * NULL_POINTER. NO_HANDLE. INVALID: the device says that there is no such resource. */
 PILHANGKO_NODISCARD PILHANGKO_API pilhangko_status PILHANGKO_CALL pilhangko_d3d12_read_request(const pilhangko_d3d12 *d3d12,
     const D3D12_RESOURCE_DESC *desc, pilhangko_location location, const char *name, pilhangko_d3d12_request *request);
@@ -229,7 +230,8 @@ PILHANGKO_NODISCARD PILHANGKO_API pilhangko_status PILHANGKO_CALL pilhangko_d3d1
 PILHANGKO_NODISCARD PILHANGKO_API pilhangko_status PILHANGKO_CALL pilhangko_d3d12_is_live(
     const pilhangko_d3d12 *d3d12, const pilhangko_d3d12_allocation *allocation, bool *is_live);
 
-/* A word of the caller's beside a live allocation, 0 at first: a pointer to its own record, for example. The binding doesn't look at it.
+/* A word of the caller's beside a live allocation, a pointer to its own record, for example: puts another one in its place, and reads it. A visit
+ * of the allocator's pieces shows it too; a committed resource has no piece.
  * NULL_POINTER. NO_HANDLE. NOT_LIVE. */
 PILHANGKO_NODISCARD PILHANGKO_API pilhangko_status PILHANGKO_CALL pilhangko_d3d12_set_user_data(
     pilhangko_d3d12 *d3d12, const pilhangko_d3d12_allocation *allocation, uint64_t word);
@@ -254,6 +256,7 @@ typedef struct pilhangko_d3d12_placement {
     bool committed;                       /* whether it shall have memory of its own */
     D3D12_HEAP_FLAGS committed_flags;     /* of the heap that comes with a committed one */
     const char *name;                     /* UTF-8, of the allocation, and by SetName of the resource; copied; NULL for none */
+    uint64_t user_data;                   /* as in a request */
 } pilhangko_d3d12_placement;
 
 /* Makes a resource with an allocation: placed in a heap, or committed. What was made is undone where something fails. A name of more than
@@ -273,7 +276,7 @@ PILHANGKO_NODISCARD PILHANGKO_API pilhangko_status PILHANGKO_CALL pilhangko_d3d1
     pilhangko_d3d12 *d3d12, ID3D12Resource *resource, const pilhangko_d3d12_allocation *allocation);
 
 /* Places a resource at an offset in an allocation, beside others or over them; between those that alias, the caller puts barriers. Of
- * placement, location, committed and committed_flags don't count. The caller releases it before the allocation is freed.
+ * placement, location, committed, committed_flags and user_data don't count. The caller releases it before the allocation is freed.
  * NULL_POINTER. NO_HANDLE. Of pilhangko_heaps_choose_call: as with create_resource. NOT_LIVE: also of a committed resource. INVALID: the
  * device says that there is no such resource. OUT_OF_RANGE: it doesn't fit there, or its place isn't aligned. CALL_FAILED or DEVICE_REMOVED. */
 PILHANGKO_NODISCARD PILHANGKO_API pilhangko_d3d12_result PILHANGKO_CALL pilhangko_d3d12_place_resource(pilhangko_d3d12 *d3d12,

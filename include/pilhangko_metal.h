@@ -109,7 +109,8 @@ typedef struct pilhangko_metal_request {
     uint64_t size;      /* not 0 */
     uint64_t alignment; /* a power of two */
     pilhangko_location location;
-    const char *name; /* copied; NULL for none */
+    const char *name;   /* copied; NULL for none */
+    uint64_t user_data; /* the word of the caller's that it begins with */
 } pilhangko_metal_request;
 
 /* An allocation: place resources in heap, at offset, with the heap's resourceOptions. The heap is lent, and lives as long as the
@@ -127,7 +128,7 @@ typedef struct pilhangko_metal_allocation {
 } pilhangko_metal_allocation;
 
 /* What a buffer of so many bytes needs, a texture, or an acceleration structure of so many bytes: the size and the alignment that the
- * device tells of it in a heap. name is handed on.
+ * device tells of it in a heap. name is handed on; the word is 0.
  * NULL_POINTER. NO_HANDLE. Of a texture: HOST_OUT_OF_MEMORY: its descriptor isn't copied. */
 PILHANGKO_NODISCARD PILHANGKO_API pilhangko_status PILHANGKO_CALL pilhangko_metal_read_buffer_request(const pilhangko_metal *metal,
     NSUInteger length, pilhangko_location location, const char *name, pilhangko_metal_request *request);
@@ -225,7 +226,8 @@ PILHANGKO_NODISCARD PILHANGKO_API pilhangko_status PILHANGKO_CALL pilhangko_meta
 PILHANGKO_NODISCARD PILHANGKO_API pilhangko_status PILHANGKO_CALL pilhangko_metal_is_live(
     const pilhangko_metal *metal, const pilhangko_metal_allocation *allocation, bool *is_live);
 
-/* A word of the caller's beside a live allocation, 0 at first: a pointer to its own record, for example. The binding doesn't look at it.
+/* A word of the caller's beside a live allocation, a pointer to its own record, for example: puts another one in its place, and reads it. A visit
+ * of the allocator's pieces shows it too.
  * NULL_POINTER. NO_HANDLE. NOT_LIVE. */
 PILHANGKO_NODISCARD PILHANGKO_API pilhangko_status PILHANGKO_CALL pilhangko_metal_set_user_data(
     pilhangko_metal *metal, const pilhangko_metal_allocation *allocation, uint64_t word);
@@ -241,7 +243,8 @@ PILHANGKO_NODISCARD PILHANGKO_API pilhangko_status PILHANGKO_CALL pilhangko_meta
 /* Where a resource goes. */
 typedef struct pilhangko_metal_placement {
     pilhangko_location location;
-    const char *name; /* UTF-8, of the allocation and the resource's label; copied; NULL for none */
+    const char *name;   /* UTF-8, of the allocation and the resource's label; copied; NULL for none */
+    uint64_t user_data; /* as in a request */
 } pilhangko_metal_placement;
 
 /* Makes a buffer of so many bytes, a texture, or an acceleration structure of so many bytes, with an allocation, and gives it to the

@@ -177,9 +177,9 @@ PILHANGKO_NODISCARD PILHANGKO_API pilhangko_status PILHANGKO_CALL pilhangko_vulk
 
 /* What memory is wanted for. Zeros behind the name ask for nothing more.
  *
- * Where one of the last four fields isn't 0, flags choose the memory in place of the location, which is 0 or UNKNOWN then: memory types that have
- * all required flags are tried from the cheapest on, while they have no room (pilhangko_preference). So it is with the two locations above, whose
- * flags are the binding's; never_allocate may stand beside them. Protected, device-coherent and RDMA-capable memory, for which a feature has
+ * Where one of the flags or never_allocate isn't 0, flags choose the memory in place of the location, which is 0 or UNKNOWN then: memory types that
+ * have all required flags are tried from the cheapest on, while they have no room (pilhangko_preference). So it is with the two locations above,
+ * whose flags are the binding's; never_allocate may stand beside them. Protected, device-coherent and RDMA-capable memory, for which a feature has
  * to be enabled, then serves only where a required or preferred flag says so.
  *
  * A request with a chain gets memory of its own, and the driver is asked for that with the chain behind the binding's own structs: a priority
@@ -200,6 +200,7 @@ typedef struct pilhangko_vulkan_request {
     VkMemoryPropertyFlags preferred_flags;
     VkMemoryPropertyFlags avoided_flags;
     bool never_allocate; /* whether only memory that is there is looked at, and the driver isn't asked */
+    uint64_t user_data;  /* the word of the caller's that it begins with */
 } pilhangko_vulkan_request;
 
 /* An allocation: bind at offset of memory. The calls read the last three fields alone. One that was freed is refused for good
@@ -348,7 +349,7 @@ PILHANGKO_NODISCARD PILHANGKO_API pilhangko_status PILHANGKO_CALL pilhangko_vulk
 /* What a live allocation is. */
 typedef struct pilhangko_vulkan_allocation_told {
     void *mapped;                         /* where the host sees it; NULL where it can't */
-    uint64_t user_data;                   /* the caller's word; 0 until it is set */
+    uint64_t user_data;                   /* the caller's word */
     VkMemoryPropertyFlags property_flags; /* those of its memory type */
     VkDeviceSize block_size;              /* the size of its memory */
     bool block_shared;                    /* whether other allocations may lie in that memory */
@@ -359,7 +360,7 @@ typedef struct pilhangko_vulkan_allocation_told {
 PILHANGKO_NODISCARD PILHANGKO_API pilhangko_status PILHANGKO_CALL pilhangko_vulkan_read_allocation(
     const pilhangko_vulkan *vulkan, const pilhangko_vulkan_allocation *allocation, pilhangko_vulkan_allocation_told *told);
 
-/* Keeps a word of the caller's with a live allocation: a pointer, an index ..
+/* Keeps another word of the caller's with a live allocation, a pointer, an index .. A visit of the allocator's pieces shows it too.
  * NULL_POINTER. NO_HANDLE. NOT_LIVE. */
 PILHANGKO_NODISCARD PILHANGKO_API pilhangko_status PILHANGKO_CALL pilhangko_vulkan_set_user_data(
     pilhangko_vulkan *vulkan, const pilhangko_vulkan_allocation *allocation, uint64_t user_data);
@@ -383,6 +384,7 @@ typedef struct pilhangko_vulkan_placement {
     VkMemoryPropertyFlags preferred_flags;
     VkMemoryPropertyFlags avoided_flags;
     bool never_allocate;
+    uint64_t user_data;
 } pilhangko_vulkan_placement;
 
 /* Makes a buffer or an image with memory and binds it. It has memory of its own where placement says so or has a chain, or the driver requires

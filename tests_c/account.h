@@ -12,6 +12,7 @@ struct chunk {
     uint64_t start, offset, end, number;
     uint32_t kind; /* 0: a gap */
     const char *name;
+    uint64_t word;
 };
 
 struct account {
@@ -25,7 +26,7 @@ static inline void account_begin(struct account *a, uint64_t size, uint64_t page
     a->page = page;
     a->next_number = 2;
     a->count = 1;
-    a->chunks[0] = (struct chunk){0, 0, size, 1, 0, ""};
+    a->chunks[0] = (struct chunk){0, 0, size, 1, 0, "", 0};
 }
 
 /* wide enough for each sum of sizes and alignments */
@@ -60,7 +61,7 @@ static inline bool account_allocate(
     }
     if (best == a->count) return false;
     struct chunk gap = a->chunks[best];
-    struct chunk piece = {gap.start, best_offset, best_offset + size, gap.number, kind, name ? name : ""};
+    struct chunk piece = {gap.start, best_offset, best_offset + size, gap.number, kind, name ? name : "", 0};
     if (piece.end < gap.end) {
         CHECK(a->count < ACCOUNT_CHUNKS);
         piece.number = a->next_number++;
@@ -128,10 +129,10 @@ static inline void account_shows(const struct account *a, uint64_t from, const p
         const struct chunk *c = &a->chunks[i];
         if (!c->kind || c->offset < from) continue;
         CHECK(view->exists && view->number == c->number && view->start == c->start && view->offset == c->offset && view->end == c->end &&
-              view->kind == c->kind);
+              view->kind == c->kind && view->word == c->word);
         return;
     }
-    CHECK(!view->exists && view->number == 0 && view->start == 0 && view->offset == 0 && view->end == 0 && view->kind == 0);
+    CHECK(!view->exists && view->number == 0 && view->start == 0 && view->offset == 0 && view->end == 0 && view->kind == 0 && view->word == 0);
 }
 
 /* The views of all pieces from a place on, in an array with that much room, are the account's; each view's number was UINT64_MAX. */

@@ -230,6 +230,8 @@ static void out_of_turn(void) {
     CHECK(back.exists && back.mapped && back.memory == 3 && back.address == 3);
     IS(pilhangko_allocator_rename(&a, &piece, "name"), PILHANGKO_AWAITS_ANSWER);
     IS(pilhangko_allocator_rename(&a, &kept, "\xff"), PILHANGKO_AWAITS_ANSWER);
+    IS(pilhangko_allocator_set_word(&a, &piece, 1), PILHANGKO_AWAITS_ANSWER);
+    IS(pilhangko_allocator_set_word(&a, &kept, 1), PILHANGKO_AWAITS_ANSWER);
     IS(pilhangko_allocator_set_budget(&a, 0, true, 1), PILHANGKO_AWAITS_ANSWER);
     IS(pilhangko_allocator_set_budget(&a, 9, true, 1), PILHANGKO_AWAITS_ANSWER);
     is_live(&a, &piece, true);
@@ -344,12 +346,50 @@ static void piece_statuses(void) {
         IS(pilhangko_allocator_free(&a, &wrong, &back), PILHANGKO_NOT_LIVE);
         IS(pilhangko_allocator_rename(&a, &wrong, "name"), PILHANGKO_NOT_LIVE);
         IS(pilhangko_allocator_rename(&a, &wrong, "\xff"), PILHANGKO_INVALID);
+        IS(pilhangko_allocator_set_word(&a, &wrong, 1), PILHANGKO_NOT_LIVE);
     }
     CHECK(back.exists && back.mapped && back.memory == 3 && back.address == 3);
     IS(pilhangko_allocator_rename(&a, &piece, "\xf5"), PILHANGKO_INVALID);
     IS(pilhangko_allocator_rename(&a, &piece, "another name"), PILHANGKO_OK);
     frees(&a, &piece, false, false, 0);
     IS(pilhangko_allocator_free(&a, &piece, &back), PILHANGKO_NOT_LIVE);
+    IS(pilhangko_allocator_destroy(&a), PILHANGKO_OK);
+}
+
+/* ---- words */
+
+static void has_word(const pilhangko_allocator *a, const pilhangko_allocator_piece *piece, uint64_t expected) {
+    pilhangko_piece_view view = {.word = 77};
+    size_t shown;
+    IS(pilhangko_allocator_pieces(a, piece->memory_type, piece->piece.slot, piece->piece.offset, &view, 1, &shown), PILHANGKO_OK);
+    CHECK(shown == 1 && view.number == piece->piece.number && view.word == expected);
+}
+
+/* A word stays through renames, also of a piece that has memory of its own, and the next piece in its place has none. */
+static void words(void) {
+    pilhangko_allocator a = made();
+    pilhangko_allocator_request r = asks(100, 7, PILHANGKO_LOCATION_GPU_ONLY), large = r;
+    pilhangko_allocator_progress p;
+    pilhangko_allocator_piece piece, own;
+    large.scheme = PILHANGKO_SCHEME_IMAGE;
+    IS(pilhangko_allocator_begin(&a, &r, NULL, &p), PILHANGKO_OK);
+    IS(pilhangko_allocator_granted(&a, 1, 0, &piece), PILHANGKO_OK);
+    IS(pilhangko_allocator_begin(&a, &large, "own", &p), PILHANGKO_OK);
+    IS(pilhangko_allocator_granted(&a, 2, 0, &own), PILHANGKO_OK);
+    has_word(&a, &piece, 0);
+    has_word(&a, &own, 0);
+    IS(pilhangko_allocator_set_word(&a, &piece, UINT64_MAX), PILHANGKO_OK);
+    IS(pilhangko_allocator_set_word(&a, &own, 7), PILHANGKO_OK);
+    IS(pilhangko_allocator_rename(&a, &piece, "a name that takes host memory of its own"), PILHANGKO_OK);
+    IS(pilhangko_allocator_rename(&a, &own, NULL), PILHANGKO_OK);
+    has_word(&a, &piece, UINT64_MAX);
+    has_word(&a, &own, 7);
+    frees(&a, &piece, false, false, 0);
+    IS(pilhangko_allocator_begin(&a, &r, NULL, &p), PILHANGKO_OK);
+    is_piece(&p.piece, 0, false, 0, 3, 0, 100, 1);
+    IS(pilhangko_allocator_set_word(&a, &piece, 1), PILHANGKO_NOT_LIVE);
+    has_word(&a, &p.piece, 0);
+    has_word(&a, &own, 7);
     IS(pilhangko_allocator_destroy(&a), PILHANGKO_OK);
 }
 
@@ -544,6 +584,7 @@ static void each_call(pilhangko_allocator *a, bool tells, pilhangko_status expec
     IS(pilhangko_allocator_leak(a, 0, text, 1, tells ? &count : NULL), expected);
     if (!tells) return;
     IS(pilhangko_allocator_rename(a, &piece, NULL), expected);
+    IS(pilhangko_allocator_set_word(a, &piece, 1), expected);
     IS(pilhangko_allocator_set_budget(a, 0, true, 1), expected);
     IS(pilhangko_allocator_destroy(a), expected);
 }
@@ -560,6 +601,7 @@ static void empty_handles_and_null(void) {
     IS(pilhangko_allocator_pieces(&a, 0, 0, 0, NULL, 1, &count), PILHANGKO_NULL_POINTER);
     IS(pilhangko_allocator_piece_names(&a, 0, 0, 0, NULL, 1, text, 1, &count), PILHANGKO_NULL_POINTER);
     IS(pilhangko_allocator_piece_names(&a, 0, 0, 0, &count, 1, NULL, 1, &count), PILHANGKO_NULL_POINTER);
+    IS(pilhangko_allocator_set_word(&a, NULL, 1), PILHANGKO_NULL_POINTER);
     IS(pilhangko_allocator_report(&a, NULL, 1, &count), PILHANGKO_NULL_POINTER);
     IS(pilhangko_allocator_leak(&a, 0, NULL, 1, &count), PILHANGKO_NULL_POINTER);
     IS(pilhangko_allocator_create(&a, types, 3, NULL, 3, &settings), PILHANGKO_NULL_POINTER);
@@ -575,6 +617,7 @@ int main(void) {
     devices();
     request_statuses();
     piece_statuses();
+    words();
     visits();
     empty_handles_and_null();
     return 0;

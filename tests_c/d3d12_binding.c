@@ -17,7 +17,7 @@ static void ends(pilhangko_d3d12 *d3d12, uint64_t leaks) {
 }
 
 static pilhangko_d3d12_request asks(UINT64 size, UINT64 alignment, pilhangko_location location, pilhangko_category category) {
-    const pilhangko_d3d12_request request = {size, alignment, location, category, "row"};
+    const pilhangko_d3d12_request request = {size, alignment, location, category, "row", 0};
     return request;
 }
 
@@ -207,7 +207,7 @@ static void placing_rows(void) {
     ID3D12Resource *r[3] = {NULL, NULL, NULL};
     const struct made before = creates(&d3d12, &part, &p);
     IS(pilhangko_d3d12_read_request(&d3d12, &whole, PILHANGKO_LOCATION_GPU_ONLY, "several", &q), OK);
-    CHECK(q.size == 327680 && q.alignment == 65536 && q.category == PILHANGKO_CATEGORY_BUFFER && !strcmp(q.name, "several"));
+    CHECK(q.size == 327680 && q.alignment == 65536 && q.category == PILHANGKO_CATEGORY_BUFFER && !strcmp(q.name, "several") && q.user_data == 0);
     const pilhangko_d3d12_allocation a = allocates(&d3d12, &q);
     is_at(&a, 0, 1, 65536, 327680);
     IS(pilhangko_d3d12_place_resource(&d3d12, &a, 65536, &part, &p, &r[0]).status, OK);
@@ -608,31 +608,49 @@ static void other_allocations(void) {
     ends(&first, 1);
 }
 
-/* A word of the caller's stays with its allocation, through other calls too, and begins as 0. */
+/* A visit shows the word of an allocation in a heap, too. */
+static void has_word(const pilhangko_d3d12 *d3d12, const pilhangko_d3d12_allocation *a, uint64_t expected) {
+    pilhangko_piece_view view;
+    size_t shown;
+    uint64_t word = 7;
+    IS(pilhangko_d3d12_user_data(d3d12, a, &word), OK);
+    CHECK(word == expected);
+    if (!a->heap) return;
+    IS(pilhangko_heaps_pieces(pilhangko_d3d12_allocator(d3d12), a->piece.memory_type, a->piece.piece.slot, a->offset, &view, 1, &shown), OK);
+    CHECK(shown == 1 && view.number == a->piece.piece.number && view.word == expected);
+}
+
+/* A word of the caller's stays with its allocation, through other calls too, and begins as it is handed in. */
 static void words(void) {
     pilhangko_d3d12 d3d12 = fake_binding(2);
     const D3D12_RESOURCE_DESC desc = fake_buffer(1);
     pilhangko_d3d12_placement p = goes_to(PILHANGKO_LOCATION_GPU_ONLY);
+    pilhangko_d3d12_request r = asks(100, 4, PILHANGKO_LOCATION_GPU_ONLY, PILHANGKO_CATEGORY_BUFFER);
     struct made made[40];
-    uint64_t word = 7;
     for (unsigned i = 0; i < 40; i++) {
         p.committed = i % 2 == 1;
+        p.user_data = i % 4 < 2 ? 0 : i;
         made[i] = creates(&d3d12, &desc, &p);
-        IS(pilhangko_d3d12_user_data(&d3d12, &made[i].allocation, &word), OK);
-        CHECK(word == 0);
+        has_word(&d3d12, &made[i].allocation, p.user_data);
         IS(pilhangko_d3d12_set_user_data(&d3d12, &made[i].allocation, UINT64_MAX - i), OK);
     }
     for (unsigned i = 0; i < 40; i++) {
-        IS(pilhangko_d3d12_user_data(&d3d12, &made[i].allocation, &word), OK);
-        CHECK(word == UINT64_MAX - i);
+        has_word(&d3d12, &made[i].allocation, UINT64_MAX - i);
         IS(pilhangko_d3d12_rename(&d3d12, &made[i].allocation, "renamed"), i % 2 == 1 ? PILHANGKO_NOT_LIVE : OK);
+        has_word(&d3d12, &made[i].allocation, UINT64_MAX - i);
         drops(&d3d12, &made[i]);
     }
-    const struct made again = creates(&d3d12, &desc, &p);
-    IS(pilhangko_d3d12_user_data(&d3d12, &again.allocation, &word), OK);
-    CHECK(word == 0);
-    drops(&d3d12, &again);
-    ends(&d3d12, 0);
+    p.user_data = 0;
+    for (unsigned i = 0; i < 2; i++) {
+        p.committed = i == 1;
+        made[i] = creates(&d3d12, &desc, &p);
+        has_word(&d3d12, &made[i].allocation, 0); /* not what was freed before it */
+        drops(&d3d12, &made[i]);
+    }
+    r.user_data = 5;
+    const pilhangko_d3d12_allocation a = allocates(&d3d12, &r);
+    has_word(&d3d12, &a, 5);
+    ends(&d3d12, 1);
 }
 
 /* ---- groups and what the allocator tells */

@@ -41,7 +41,7 @@ static void is_written(const char *expected) {
 }
 
 static pilhangko_d3d12_allocation allocates(pilhangko_d3d12 *d3d12, UINT64 size, pilhangko_location location, const char *name) {
-    const pilhangko_d3d12_request request = {size, 4, location, PILHANGKO_CATEGORY_OTHER_TEXTURE, name};
+    const pilhangko_d3d12_request request = {size, 4, location, PILHANGKO_CATEGORY_OTHER_TEXTURE, name, 0};
     pilhangko_d3d12_allocation a;
     IS(pilhangko_d3d12_allocate(d3d12, &request, &a).status, OK);
     return a;
@@ -70,7 +70,7 @@ static void drops(pilhangko_d3d12 *d3d12, const struct made *it) {
 /* Allocations, their refusals, renames and frees; nothing before the end. */
 static void memory_rows(void) {
     pilhangko_d3d12 d3d12 = captured(sizeof written.bytes, 1);
-    const pilhangko_d3d12_request r = {10, 4, PILHANGKO_LOCATION_CPU_TO_GPU, PILHANGKO_CATEGORY_RTV_DSV_TEXTURE, NULL};
+    const pilhangko_d3d12_request r = {10, 4, PILHANGKO_LOCATION_CPU_TO_GPU, PILHANGKO_CATEGORY_RTV_DSV_TEXTURE, NULL, 0};
     pilhangko_d3d12_request bad = r;
     pilhangko_d3d12_allocation a, b, beside;
     pilhangko_d3d12_capture capture;

@@ -19,7 +19,7 @@ static pilhangko_d3d12 binds(void) {
 }
 
 static pilhangko_d3d12_request request_for(uint64_t size) {
-    const pilhangko_d3d12_request request = {size, 64, PILHANGKO_LOCATION_GPU_ONLY, PILHANGKO_CATEGORY_BUFFER, NULL};
+    const pilhangko_d3d12_request request = {size, 64, PILHANGKO_LOCATION_GPU_ONLY, PILHANGKO_CATEGORY_BUFFER, NULL, 0};
     return request;
 }
 
@@ -28,8 +28,14 @@ static pilhangko_status asks(pilhangko_d3d12 *d3d12, const pilhangko_d3d12_reque
 }
 
 static uint64_t word_of(const pilhangko_d3d12 *d3d12, const pilhangko_d3d12_allocation *allocation) {
+    const pilhangko_heaps_piece *piece = &allocation->piece;
+    pilhangko_piece_view view;
+    size_t shown;
     uint64_t word;
     IS(pilhangko_d3d12_user_data(d3d12, allocation, &word), PILHANGKO_OK);
+    IS(pilhangko_heaps_pieces(
+           pilhangko_d3d12_allocator(d3d12), piece->memory_type, piece->piece.slot, piece->piece.offset, &view, 1, &shown), PILHANGKO_OK);
+    CHECK(shown == 1 && view.number == piece->piece.number && view.word == word);
     return word;
 }
 

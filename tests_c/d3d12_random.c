@@ -168,7 +168,7 @@ static void allocates(void) {
     const pilhangko_d3d12_request request = {random_below(100) ? some_size() : 0,
         random_below(100) ? UINT64_C(1) << random_below(18) : random_below(8),
         (pilhangko_location)(random_below(100) ? 1 + random_below(4) : random_below(7)),
-        (pilhangko_category)(random_below(100) ? 1 + random_below(3) : random_below(5)), SOME_NAME};
+        (pilhangko_category)(random_below(100) ? 1 + random_below(3) : random_below(5)), SOME_NAME, 0};
     const pilhangko_heaps_request asks = {request.size, request.alignment, request.location, request.category};
     const uint64_t first = fake.questions;
     const struct foretold f = foretell(&asks);
@@ -317,7 +317,7 @@ static void moves_one(void) {
     const pilhangko_d3d12_allocation a = from->allocation;
     const size_t type = a.piece.memory_type;
     const pilhangko_d3d12_request request = {random_below(20) ? a.size : a.size + 1, from->is_committed ? 1 : from->alignment,
-        (pilhangko_location)(2 + (account.tier == 1 ? type / 3 : type)), (pilhangko_category)(account.tier == 1 ? 1 + type % 3 : 1), SOME_NAME};
+        (pilhangko_location)(2 + (account.tier == 1 ? type / 3 : type)), (pilhangko_category)(account.tier == 1 ? 1 + type % 3 : 1), SOME_NAME, 0};
     const pilhangko_memory_request asks = {a.size, request.alignment, PILHANGKO_KIND_LINEAR, false};
     const pilhangko_status valid = request.size == a.size ? PILHANGKO_OK : PILHANGKO_INVALID;
     const pilhangko_status status = from->is_committed ? (pilhangko_status)PILHANGKO_NOT_LIVE : valid;
@@ -408,7 +408,7 @@ static pilhangko_kind kind_of(const struct live *it) {
 static pilhangko_d3d12_request request_again(const struct live *it) {
     const size_t type = it->allocation.piece.memory_type;
     const pilhangko_d3d12_request request = {it->allocation.size, it->alignment, (pilhangko_location)(2 + (account.tier == 1 ? type / 3 : type)),
-        (pilhangko_category)(account.tier == 1 ? 1 + type % 3 : 1), SOME_NAME};
+        (pilhangko_category)(account.tier == 1 ? 1 + type % 3 : 1), SOME_NAME, 0};
     return request;
 }
 

@@ -11,7 +11,7 @@ static pilhangko_d3d12 d3d12;
 
 static pilhangko_d3d12_allocation allocates(unsigned turn) {
     const pilhangko_d3d12_request request = {64 + turn % 100 * 16, 16, turn % 3 ? PILHANGKO_LOCATION_CPU_TO_GPU : PILHANGKO_LOCATION_GPU_ONLY,
-        PILHANGKO_CATEGORY_BUFFER, "a name that takes host memory of its own"};
+        PILHANGKO_CATEGORY_BUFFER, "a name that takes host memory of its own", 0};
     pilhangko_d3d12_allocation a;
     IS(pilhangko_d3d12_allocate(&d3d12, &request, &a).status, PILHANGKO_OK);
     return a;

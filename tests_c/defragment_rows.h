@@ -4,7 +4,7 @@
  *   binds            a binding over a device as it begins; another_binding over the same device
  *   request_for      a request for so many bytes, aligned to 64, without a name
  *   asks             for an allocation
- *   word_of          the caller's word of an allocation
+ *   word_of          the caller's word of an allocation, which a visit shows too
  *   block_count      of the device, piece_count of a binding
  *   ends             destroys a binding: nothing is left */
 #ifndef DEFRAGMENT_ROWS_H
@@ -14,10 +14,11 @@
 #define PIECES 16
 #define SMALL 64 /* pieces that fill a block */
 
-static NAMED(_movable) allocates(NAMED() *binding, uint64_t size) {
+static NAMED(_movable) allocates(NAMED() *binding, uint64_t size, uint64_t word) {
     NAMED(_movable) made;
     made.request = request_for(size);
     made.request.name = "a name that takes host memory of its own";
+    made.request.user_data = word;
     IS(asks(binding, &made.request, &made.allocation), OK);
     return made;
 }
@@ -56,9 +57,10 @@ static struct scene begins(void) {
     memset(&s, 0, sizeof s);
     s.binding = binds();
     for (unsigned i = 0; i < PIECES; i++) {
-        s.pieces[i] = allocates(&s.binding, MB);
+        s.pieces[i] = allocates(&s.binding, MB, 100 + i);
         CHECK(s.pieces[i].allocation.piece.piece.slot == i / 4 && s.pieces[i].allocation.offset == i % 4 * MB);
-        IS(NAMED(_set_user_data)(&s.binding, &s.pieces[i].allocation, 100 + i), OK);
+        s.pieces[i].request.user_data = 7; /* a move keeps the first place's word */
+        if (i % 2) IS(NAMED(_set_user_data)(&s.binding, &s.pieces[i].allocation, 200 + i), OK);
     }
     for (unsigned i = 0; i < PIECES; i++)
         if (!is_left[i]) frees(&s.binding, &s.pieces[i].allocation);
@@ -86,7 +88,7 @@ static NAMED(_allocation) is_move(const struct scene *s, size_t at, unsigned pie
     const NAMED(_move) *move = &s->moves[at];
     CHECK(s->table[move->index].allocation.serial == s->pieces[piece].allocation.serial);
     CHECK(move->to.piece.piece.slot == slot && move->to.offset == offset && move->to.size == MB);
-    CHECK(word_of(&s->binding, &move->to) == 100 + piece && lives(&s->binding, &s->pieces[piece].allocation));
+    CHECK(word_of(&s->binding, &move->to) == (piece % 2 ? 200 : 100) + piece && lives(&s->binding, &s->pieces[piece].allocation));
     return move->to;
 }
 
@@ -131,11 +133,11 @@ static void over_frames(void) {
     counts(&s, 3, 3 * MB, 1, 4 * MB); /* slot 0 is empty */
     proposes(&s, 8 * MB, PIECES, 0, 0, true);
     frees(&s.binding, &s.pieces[12].allocation);
-    s.pieces[12] = allocates(&s.binding, MB / 2); /* at the same place, and half of it is left */
+    s.pieces[12] = allocates(&s.binding, MB / 2, 0); /* at the same place, and half of it is left */
     fills_table(&s);
     proposes(&s, 8 * MB, PIECES, 0, 0, true);
     frees(&s.binding, &s.pieces[13].allocation);
-    s.pieces[13] = allocates(&s.binding, MB / 2);
+    s.pieces[13] = allocates(&s.binding, MB / 2, 0);
     fills_table(&s);
     proposes(&s, 8 * MB, PIECES, 1, 1, false); /* there is a gap once more */
     ends_scene(&s);
@@ -164,7 +166,7 @@ static void by_bounds(void) {
     proposes(&s, 8 * MB, PIECES, 1, 4, false);
     (void)is_move(&s, 0, 4, 3, MB);
     IS(NAMED(_defragmentation_end)(&s.binding, &s.it), OK);
-    s.pieces[13] = allocates(&s.binding, MB);
+    s.pieces[13] = allocates(&s.binding, MB, 0);
     ends_scene(&s);
 }
 
@@ -276,8 +278,8 @@ static bool moves_forty(long nth) {
     NAMED(_move) moves[7];
     size_t proposed, all = 0;
     bool was_refused = false;
-    for (unsigned i = 0; i < SMALL; i++) table[i] = allocates(&binding, 4 * MB / SMALL);
-    for (unsigned i = 0; i < SMALL; i++) above[i] = allocates(&binding, 4 * MB / SMALL);
+    for (unsigned i = 0; i < SMALL; i++) table[i] = allocates(&binding, 4 * MB / SMALL, 0);
+    for (unsigned i = 0; i < SMALL; i++) above[i] = allocates(&binding, 4 * MB / SMALL, 0);
     for (unsigned i = 24; i < SMALL; i++) frees(&binding, &above[i].allocation);
     heap_requests = 0;
     heap_refused = nth;

@@ -1,13 +1,15 @@
-/* A target for clang's libFuzzer: an input is a row of calls of the four handles of pilhangko.h, each beside a plain account that
+/* A target for clang's libFuzzer: an input is a row of calls of five handles of pilhangko.h, each beside a plain account that
  * foretells its status and what it reports. Sizes, alignments, names and pieces may be anything. */
 #include "allocator_account.h"
 #include "fuzz_handles.h"
 #include "ring_account.h"
+#include <inttypes.h>
+#include <stdarg.h>
 
 #define CALLS 900 /* of one input: the account's rows have room for what they leave */
 #define NAME_ROOM 12
 
-size_t fuzz_pieces[4];
+size_t fuzz_pieces[5];
 
 /* ---- the input */
 
@@ -156,6 +158,15 @@ static void frees_or_renames_in_block(bool frees) {
     }
 }
 
+static void sets_word_in_block(void) {
+    const pilhangko_virtual_piece piece = some_block_piece();
+    const uint64_t word = next_number();
+    const size_t at = has_block ? account_find(&block_account, piece.offset, piece.number) : 0;
+    const bool is_live = has_block && at < block_account.count;
+    IS(pilhangko_virtual_block_set_word(&block, &piece, word), block_status(is_live ? PILHANGKO_OK : PILHANGKO_NOT_LIVE));
+    if (is_live) block_account.chunks[at].word = word;
+}
+
 static void looks_at_block(void) {
     const uint64_t from = next_number();
     pilhangko_virtual_statistics s;
@@ -301,6 +312,15 @@ static void renames_of_type(void) {
     CHECK(!has_type || is_live == (at >= 0));
     IS(pilhangko_memory_type_rename(&type, &piece, name), status);
     if (status == PILHANGKO_OK) type_account.slots[piece.slot].account.chunks[at].name = name ? name : "";
+}
+
+static void sets_word_of_type(void) {
+    const pilhangko_memory_piece piece = some_piece(&type_account);
+    const uint64_t word = next_number();
+    const long at = has_type ? type_find(&type_account, &piece) : -1;
+    const pilhangko_status status = type_status(true, at >= 0 ? PILHANGKO_OK : PILHANGKO_NOT_LIVE);
+    IS(pilhangko_memory_type_set_word(&type, &piece, word), status);
+    if (status == PILHANGKO_OK) type_account.slots[piece.slot].account.chunks[at].word = word;
 }
 
 static void bounds_type(void) {
@@ -545,6 +565,15 @@ static void renames_of_allocator(void) {
         allocator_status(true, is_utf8(name) ? live : (pilhangko_status)PILHANGKO_INVALID));
 }
 
+static void sets_word_of_allocator(void) {
+    const pilhangko_allocator_piece piece = some_allocation();
+    const uint64_t word = next_number();
+    const long at = allocation_at(&piece);
+    const pilhangko_status status = allocator_status(true, at >= 0 ? PILHANGKO_OK : PILHANGKO_NOT_LIVE);
+    IS(pilhangko_allocator_set_word(&allocator, &piece, word), status);
+    if (status == PILHANGKO_OK) account.types[piece.memory_type].slots[piece.piece.slot].account.chunks[at].word = word;
+}
+
 /* A second place is told where the account has one; else nothing changes. */
 static void proposes_move(void) {
     const pilhangko_allocator_piece piece = some_allocation();
@@ -785,6 +814,237 @@ static void ends_ring(void) {
     has_ring = false;
 }
 
+/* ---- a capture: an input never has as many calls as a trace has room for */
+
+#define TRACE_ROOM (1 << 19)
+
+static pilhangko_capture capture;
+static bool has_capture;
+static struct trace {
+    char bytes[TRACE_ROOM];
+    size_t length;
+} device_lines, call_lines, whole_trace;
+static uint64_t capture_questions;
+static pilhangko_budget capture_budgets[32];
+
+static pilhangko_status capture_status(pilhangko_status status) {
+    return has_capture ? status : PILHANGKO_NO_HANDLE;
+}
+
+static void writes(struct trace *trace, const char *format, ...) {
+    const size_t room = sizeof trace->bytes - trace->length;
+    va_list values;
+    va_start(values, format);
+    const int length = vsnprintf(trace->bytes + trace->length, room, format, values);
+    va_end(values);
+    CHECK(length >= 0 && (size_t)length < room);
+    trace->length += (size_t)length;
+}
+
+/* A name as a trace has it. */
+static const char *traced(const char *name) {
+    static char word[65];
+    size_t length = 0;
+    for (; name && name[length] && length < 64; length++) word[length] = name[length] >= '!' && name[length] <= '~' ? name[length] : '_';
+    if (length == 0) word[length++] = '_';
+    word[length] = 0;
+    return word;
+}
+
+/* the driver's heaps and memory types needn't be any that an allocator is made of */
+static pilhangko_status creates_of_allocator(const pilhangko_allocator_settings *s) {
+    pilhangko_device_memory_type types[3];
+    pilhangko_device_heap heaps[3];
+    const size_t type_count = next_byte() % 4, heap_count = next_byte() % 4;
+    for (size_t i = 0; i < 3; i++) {
+        heaps[i].size = next_number();
+        heaps[i].flags = next_byte();
+        types[i].flags = (uint32_t)next_bytes(4);
+        types[i].heap = next_byte();
+        if (!has_capture && i < heap_count) writes(&device_lines, "heap %" PRIu64 "\n", heaps[i].size);
+    }
+    for (size_t i = 0; !has_capture && i < type_count; i++)
+        writes(&device_lines, "type %" PRIu32 " %" PRIu32 "\n", types[i].flags, types[i].heap);
+    if (!has_capture) writes(&device_lines, "granularity %" PRIu64 "\n", s->page_size);
+    return pilhangko_capture_of_allocator(&capture, types, type_count, heaps, heap_count, s);
+}
+
+static pilhangko_status creates_of_heaps(const pilhangko_allocator_settings *s, uint32_t tier) {
+    const pilhangko_heaps_settings of_heaps = {
+        tier, s->device_block_size, s->largest_device_block_size, s->host_block_size, s->largest_host_block_size};
+    if (!has_capture) writes(&device_lines, "d3d12\ntier %u\n", tier < 2 ? 1 : 2);
+    return pilhangko_capture_of_heaps(&capture, &of_heaps);
+}
+
+static pilhangko_status creates_of_metal_heaps(const pilhangko_allocator_settings *s) {
+    const bool has_set = next_byte() % 2;
+    const pilhangko_metal_heaps_settings of_metal = {
+        has_set, s->device_block_size, s->largest_device_block_size, s->host_block_size, s->largest_host_block_size};
+    if (!has_capture) writes(&device_lines, "metal\nresidency %s\n", has_set ? "yes" : "no");
+    if (!has_capture) capture_questions = has_set;
+    return pilhangko_capture_of_metal_heaps(&capture, &of_metal);
+}
+
+static void creates_capture(void) {
+    const uint32_t api = next_small(3), tier = next_small(4);
+    const pilhangko_status valid = api == 1 && tier == 0 ? PILHANGKO_INVALID_DEVICE : PILHANGKO_OK;
+    pilhangko_allocator_settings s;
+    s.page_size = next_number();
+    s.device_block_size = next_number();
+    s.largest_device_block_size = next_number();
+    s.host_block_size = next_number();
+    s.largest_host_block_size = next_number();
+    if (!has_capture) device_lines.length = call_lines.length = 0, capture_questions = 0;
+    const pilhangko_status status = api == 0 ? creates_of_allocator(&s) : api == 1 ? creates_of_heaps(&s, tier) : creates_of_metal_heaps(&s);
+    IS(status, has_capture ? (pilhangko_status)PILHANGKO_IN_USE : valid);
+    if (status != PILHANGKO_OK) return;
+    writes(&device_lines, "sizes %" PRIu64 " %" PRIu64 " %" PRIu64 " %" PRIu64 "\n", s.device_block_size, s.host_block_size,
+        s.largest_device_block_size, s.largest_host_block_size);
+    memset(capture_budgets, 0, sizeof capture_budgets);
+    has_capture = true;
+}
+
+enum captured_api { OF_VULKAN, OF_D3D12, OF_METAL, COMMITTED };
+
+/* What is asked for, by any API: the requests differ in what they have beside these. */
+struct captured {
+    enum captured_api api;
+    pilhangko_allocator_request asks;
+    pilhangko_heaps_request asks_heaps;
+    pilhangko_metal_heaps_request asks_metal;
+    const char *name;
+};
+
+static struct captured next_captured(bool moves) {
+    struct captured c;
+    c.api = (enum captured_api)next_small(moves ? 3 : 4);
+    c.asks = next_request();
+    c.asks_heaps = (pilhangko_heaps_request){c.asks.size, c.asks.alignment, c.asks.location, 1 + next_small(4)};
+    c.asks_metal = (pilhangko_metal_heaps_request){c.asks.size, c.asks.alignment, c.asks.location};
+    c.name = next_name();
+    return c;
+}
+
+static pilhangko_status captured_status(const struct captured *c) {
+    bool is_valid = c->asks.size && is_power(c->asks.alignment) && c->asks.location <= 4;
+    if (c->api == OF_VULKAN) is_valid = is_valid && c->asks.kind <= 2 && c->asks.scheme >= 1 && c->asks.scheme <= 3;
+    if (c->api == OF_D3D12 || c->api == COMMITTED) is_valid = is_valid && c->asks_heaps.category <= 3;
+    return capture_status(is_valid && (c->api == COMMITTED || is_utf8(c->name)) ? PILHANGKO_OK : PILHANGKO_INVALID);
+}
+
+static const char *const locations[] = {"Unknown", "GpuOnly", "CpuToGpu", "GpuToCpu"}, *const categories[] = {"buffer", "target", "texture"};
+
+static void writes_request(const struct captured *c) {
+    const pilhangko_allocator_request *r = &c->asks;
+    writes(&call_lines, " %" PRIu64 " %" PRIu64, r->size, r->alignment);
+    if (c->api == OF_VULKAN) writes(&call_lines, " %" PRIu32, r->memory_type_bits);
+    writes(&call_lines, " %s", locations[r->location - 1]);
+    if (c->api == OF_VULKAN) writes(&call_lines, r->kind == PILHANGKO_KIND_LINEAR ? " linear" : " nonlinear");
+    if (c->api == OF_VULKAN && r->scheme == PILHANGKO_SCHEME_MANAGED) writes(&call_lines, " managed");
+    if (c->api == OF_VULKAN && r->scheme == PILHANGKO_SCHEME_BUFFER) writes(&call_lines, " buffer:%" PRIu64, r->resource);
+    if (c->api == OF_VULKAN && r->scheme == PILHANGKO_SCHEME_IMAGE) writes(&call_lines, " image:%" PRIu64, r->resource);
+    if (c->api == OF_D3D12) writes(&call_lines, " %s", categories[c->asks_heaps.category - 1]);
+    writes(&call_lines, " %s\n", traced(c->name));
+}
+
+static void writes_committed(const struct captured *c, uint64_t number) {
+    const uint64_t units = c->asks.size / 65536 + (c->asks.size % 65536 != 0), whole = units * 65536;
+    writes(&call_lines, "create %" PRIu64 " committed %s %s buffer %" PRIu64 " 1 1 0 state:0 none none %s\n", number,
+        locations[c->asks.location - 1], categories[c->asks_heaps.category - 1], whole >= c->asks.size ? whole : c->asks.size, traced(c->name));
+}
+
+static void captures_request(void) {
+    const struct captured c = next_captured(false);
+    const uint64_t number = next_number();
+    pilhangko_capture_answer answers[3];
+    const size_t count = next_byte() % 4;
+    for (size_t i = 0; i < 3; i++) {
+        answers[i].refused = next_byte() % 2;
+        answers[i].code = next_byte() % 2 ? 0 : (int32_t)next_bytes(4);
+    }
+    const pilhangko_status status = captured_status(&c);
+    if (c.api == OF_VULKAN) IS(pilhangko_capture_allocator_allocated(&capture, number, &c.asks, c.name, answers, count), status);
+    if (c.api == OF_D3D12) IS(pilhangko_capture_heaps_allocated(&capture, number, &c.asks_heaps, c.name, answers, count), status);
+    if (c.api == OF_METAL) IS(pilhangko_capture_metal_heaps_allocated(&capture, number, &c.asks_metal, c.name, answers, count), status);
+    if (c.api == COMMITTED) IS(pilhangko_capture_heaps_committed(&capture, number, &c.asks_heaps, c.name, answers, count), status);
+    if (status != PILHANGKO_OK) return;
+    for (size_t i = 0; i < count; i++) {
+        capture_questions++;
+        if (answers[i].refused && answers[i].code) writes(&device_lines, "refuse %" PRIu64 " %" PRId32 "\n", capture_questions, answers[i].code);
+        if (answers[i].refused && !answers[i].code) writes(&device_lines, "refuse %" PRIu64 " null\n", capture_questions);
+    }
+    if (c.api == COMMITTED) writes_committed(&c, number);
+    else writes(&call_lines, "alloc %" PRIu64, number), writes_request(&c);
+    fuzz_pieces[4]++;
+}
+
+static void captures_move(void) {
+    const struct captured c = next_captured(true);
+    const uint64_t from = next_number(), to = next_number();
+    const pilhangko_status status = captured_status(&c);
+    if (c.api == OF_VULKAN) IS(pilhangko_capture_allocator_moved(&capture, from, to, &c.asks, c.name), status);
+    if (c.api == OF_D3D12) IS(pilhangko_capture_heaps_moved(&capture, from, to, &c.asks_heaps, c.name), status);
+    if (c.api == OF_METAL) IS(pilhangko_capture_metal_heaps_moved(&capture, from, to, &c.asks_metal, c.name), status);
+    if (status != PILHANGKO_OK) return;
+    writes(&call_lines, "move %" PRIu64 " %" PRIu64, from, to);
+    writes_request(&c);
+}
+
+static void captures_small_call(void) {
+    const uint32_t what = next_small(4);
+    const uint64_t number = next_number();
+    const char *name = next_name(); /* which may be any bytes */
+    if (what == 0) IS(pilhangko_capture_freed(&capture, number), capture_status(PILHANGKO_OK));
+    if (what == 1) IS(pilhangko_capture_released(&capture, number), capture_status(PILHANGKO_OK));
+    if (what == 2) IS(pilhangko_capture_renamed(&capture, number, name), capture_status(PILHANGKO_OK));
+    if (what == 3) IS(pilhangko_capture_set_committed(&capture), capture_status(PILHANGKO_OK));
+    if (!has_capture) return;
+    if (what < 2) writes(&call_lines, "%s %" PRIu64 "\n", what == 0 ? "free" : "release", number);
+    if (what == 2) writes(&call_lines, "rename %" PRIu64 " %s\n", number, traced(name));
+    if (what == 3) writes(&call_lines, "commit\n");
+}
+
+static void captures_bound(void) {
+    const size_t at = next_byte() % 16 ? next_byte() % 40 : (size_t)next_number();
+    const bool has = next_byte() % 2;
+    const uint64_t bytes = next_byte() % 2 ? next_byte() % 2 : next_number(); /* often as before */
+    const pilhangko_status status = capture_status(at < 32 ? PILHANGKO_OK : PILHANGKO_NO_SUCH_TYPE);
+    IS(pilhangko_capture_bounded(&capture, at, has, bytes), status);
+    if (status != PILHANGKO_OK) return;
+    pilhangko_budget *told = &capture_budgets[at];
+    if (has && (!told->exists || told->bytes != bytes)) writes(&call_lines, "budget %zu %" PRIu64 "\n", at, bytes);
+    if (!has && told->exists) writes(&call_lines, "budget %zu none\n", at);
+    told->exists = has;
+    told->bytes = bytes;
+}
+
+static void looks_at_capture(void) {
+    const bool is_destroyed = next_byte() % 2;
+    const size_t near = (size_t)next_bytes(2), any = (size_t)next_number(), room = (size_t)next_bytes(2) % 2000;
+    char bytes[2000];
+    pilhangko_capture_end end = PILHANGKO_CAPTURE_TOO_LONG;
+    size_t count = 77;
+    memset(bytes, '?', sizeof bytes);
+    whole_trace.length = 0;
+    if (has_capture)
+        writes(&whole_trace, "%.*snew\n%.*s%s", (int)device_lines.length, device_lines.bytes, (int)call_lines.length, call_lines.bytes,
+            is_destroyed ? "destroy\n" : "");
+    const size_t length = whole_trace.length, from = any % 8 ? near % (length + 2) : any, rest = from < length ? length - from : 0;
+    IS(pilhangko_capture_how_far(&capture, &end), capture_status(PILHANGKO_OK));
+    IS(pilhangko_capture_text(&capture, is_destroyed, from, bytes, room, &count), capture_status(PILHANGKO_OK));
+    if (!has_capture) {
+        CHECK(end == PILHANGKO_CAPTURE_TOO_LONG && count == 77);
+        return;
+    }
+    CHECK(end == PILHANGKO_CAPTURE_WHOLE && count == (rest < room ? rest : room) && !memcmp(bytes, whole_trace.bytes + (rest ? from : 0), count));
+    for (size_t i = count; i < sizeof bytes; i++) CHECK(bytes[i] == '?');
+}
+
+static void ends_capture(void) {
+    IS(pilhangko_capture_destroy(&capture), capture_status(PILHANGKO_OK));
+    has_capture = false;
+}
+
 /* ---- the calls */
 
 static void calls_block(uint8_t what) {
@@ -792,8 +1052,9 @@ static void calls_block(uint8_t what) {
     else if (what < 40) allocates_in_block();
     else if (what < 65) frees_or_renames_in_block(true);
     else if (what < 70) frees_or_renames_in_block(false);
-    else if (what < 79) looks_at_block();
-    else ends_block(what == 79);
+    else if (what < 74) sets_word_in_block();
+    else if (what < 83) looks_at_block();
+    else ends_block(what == 83);
 }
 
 static void calls_type(uint8_t what) {
@@ -802,8 +1063,9 @@ static void calls_type(uint8_t what) {
     else if (what < 45) installs_or_abandons(what < 43);
     else if (what < 65) frees_of_type();
     else if (what < 69) renames_of_type();
-    else if (what < 72) bounds_type();
-    else if (what < 84) looks_at_type();
+    else if (what < 73) sets_word_of_type();
+    else if (what < 76) bounds_type();
+    else if (what < 88) looks_at_type();
     else ends_type();
 }
 
@@ -815,12 +1077,13 @@ static void calls_allocator(uint8_t what) {
     else if (what < 50) refuses(what % 2);
     else if (what < 70) frees_of_allocator();
     else if (what < 75) renames_of_allocator();
-    else if (what < 78) bounds_allocator();
-    else if (what < 79) limits_heap();
-    else if (what < 80) limits_blocks();
-    else if (what < 82) sets_smaller_blocks();
-    else if (what < 89) looks_at_allocator();
-    else if (what < 99) proposes_move();
+    else if (what < 80) sets_word_of_allocator();
+    else if (what < 83) bounds_allocator();
+    else if (what < 84) limits_heap();
+    else if (what < 85) limits_blocks();
+    else if (what < 87) sets_smaller_blocks();
+    else if (what < 94) looks_at_allocator();
+    else if (what < 104) proposes_move();
     else ends_allocator();
 }
 
@@ -833,6 +1096,16 @@ static void calls_ring(uint8_t what) {
     else ends_ring();
 }
 
+static void calls_capture(uint8_t what) {
+    if (what < 4) creates_capture();
+    else if (what < 20) captures_request();
+    else if (what < 26) captures_move();
+    else if (what < 34) captures_small_call();
+    else if (what < 40) captures_bound();
+    else if (what < 49) looks_at_capture();
+    else ends_capture();
+}
+
 int LLVMFuzzerTestOneInput(const uint8_t *bytes, size_t length) {
     input = bytes;
     input_left = length;
@@ -841,16 +1114,18 @@ int LLVMFuzzerTestOneInput(const uint8_t *bytes, size_t length) {
     for (size_t i = 0; i < ACCOUNT_TYPES; i++) account.types[i].slot_count = 0;
     account.awaits_answer = false;
     for (unsigned calls = 0; input_left > 0 && calls < CALLS; calls++) {
-        const uint8_t handle = next_byte() % 8;
+        const uint8_t handle = next_byte() % 9;
         const uint8_t what = next_byte();
-        if (handle < 2) calls_block(what % 81);
-        else if (handle < 4) calls_type(what % 85);
-        else if (handle < 7) calls_allocator(what % 100);
-        else calls_ring(what % 50);
+        if (handle < 2) calls_block(what % 85);
+        else if (handle < 4) calls_type(what % 89);
+        else if (handle < 7) calls_allocator(what % 105);
+        else if (handle < 8) calls_ring(what % 50);
+        else calls_capture(what % 50);
     }
     if (has_block) ends_block(false);
     if (has_type) ends_type();
     if (has_allocator) ends_allocator();
     if (has_ring) ends_ring();
+    if (has_capture) ends_capture();
     return 0;
 }

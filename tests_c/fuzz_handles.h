@@ -6,6 +6,7 @@
 
 int LLVMFuzzerTestOneInput(const uint8_t *bytes, size_t length);
 
-/* Pieces that were allocated so far: in virtual blocks, in memory types' blocks that were there, in allocators' new blocks, in rings. */
-extern size_t fuzz_pieces[4];
+/* Pieces that were allocated so far: in virtual blocks, in memory types' blocks that were there, in allocators' new blocks, in rings; and requests
+ * that captures have. */
+extern size_t fuzz_pieces[5];
 #endif

@@ -135,7 +135,12 @@ static void renames(void) {
                                     : at >= 0                             ? PILHANGKO_OK
                                                                           : PILHANGKO_NOT_LIVE;
     IS(pilhangko_heaps_rename(&heaps, &piece, name), status);
-    if (status == PILHANGKO_OK) account.types[piece.memory_type].slots[piece.piece.slot].account.chunks[at].name = name ? name : "";
+    if (status != PILHANGKO_OK) return;
+    static uint64_t word;
+    struct chunk *c = &account.types[piece.memory_type].slots[piece.piece.slot].account.chunks[at];
+    IS(pilhangko_heaps_set_word(&heaps, &piece, ++word), PILHANGKO_OK);
+    c->name = name ? name : "";
+    c->word = word;
 }
 
 /* A second place for a piece, at times by a request that isn't of it. */

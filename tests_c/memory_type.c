@@ -202,6 +202,44 @@ static void budgets(void) {
     IS(pilhangko_memory_type_destroy(&type), PILHANGKO_OK);
 }
 
+static void has_word(const pilhangko_memory_type *type, const pilhangko_memory_piece *piece, uint64_t expected) {
+    pilhangko_piece_view view = {.word = 77}, views[1] = {{.word = 77}};
+    size_t shown;
+    IS(pilhangko_memory_type_next_piece(type, piece->slot, piece->offset, &view), PILHANGKO_OK);
+    IS(pilhangko_memory_type_pieces(type, piece->slot, piece->offset, views, 1, &shown), PILHANGKO_OK);
+    CHECK(view.number == piece->number && view.word == expected && shown == 1 && views[0].word == expected);
+}
+
+/* A word stays through renames, also of a piece that has a block of its own, and the next piece in its place has none. */
+static void words(void) {
+    pilhangko_memory_type type = {0};
+    const pilhangko_memory_type_settings s = settings(true);
+    pilhangko_memory_piece piece, own, again;
+    IS(pilhangko_memory_type_create(&type, &s), PILHANGKO_OK);
+    needs(&type, 100, false, 4 * MB, false);
+    installs(&type, 1, 0, 2, 100, &piece);
+    needs(&type, 100, true, 100, true);
+    installs(&type, 2, 1, 1, 100, &own);
+    has_word(&type, &piece, 0);
+    has_word(&type, &own, 0);
+    IS(pilhangko_memory_type_set_word(&type, &piece, UINT64_MAX), PILHANGKO_OK);
+    IS(pilhangko_memory_type_set_word(&type, &own, 7), PILHANGKO_OK);
+    IS(pilhangko_memory_type_rename(&type, &piece, "a name that takes host memory of its own"), PILHANGKO_OK);
+    IS(pilhangko_memory_type_rename(&type, &own, NULL), PILHANGKO_OK);
+    has_word(&type, &piece, UINT64_MAX);
+    has_word(&type, &own, 7);
+    needs(&type, 4 * MB, false, 8 * MB, false);
+    IS(pilhangko_memory_type_set_word(&type, &piece, 1), PILHANGKO_AWAITS_BLOCK);
+    has_word(&type, &piece, UINT64_MAX);
+    IS(pilhangko_memory_type_abandon(&type), PILHANGKO_OK);
+    frees(&type, &piece, false, 0);
+    allocates(&type, 100, 0, 3, 0, 1, &again);
+    IS(pilhangko_memory_type_set_word(&type, &piece, 1), PILHANGKO_NOT_LIVE);
+    has_word(&type, &again, 0);
+    has_word(&type, &own, 7);
+    IS(pilhangko_memory_type_destroy(&type), PILHANGKO_OK);
+}
+
 static void awaited(void) {
     pilhangko_memory_type type = {0};
     pilhangko_memory_type_settings s = settings(true);
@@ -266,6 +304,7 @@ static void request_and_piece_statuses(void) {
         IS(pilhangko_memory_type_free(&type, &wrong, &gone), PILHANGKO_NOT_LIVE);
         IS(pilhangko_memory_type_rename(&type, &wrong, "name"), PILHANGKO_NOT_LIVE);
         IS(pilhangko_memory_type_rename(&type, &wrong, "\xff"), PILHANGKO_INVALID);
+        IS(pilhangko_memory_type_set_word(&type, &wrong, 1), PILHANGKO_NOT_LIVE);
     }
     CHECK(gone.exists && gone.block == 3);
     IS(pilhangko_memory_type_rename(&type, &piece, "\xf5"), PILHANGKO_INVALID);
@@ -296,6 +335,7 @@ static void unmade_memory_type(void) {
     IS(pilhangko_memory_type_abandon(&type), PILHANGKO_NO_HANDLE);
     IS(pilhangko_memory_type_free(&type, &piece, &to.gone), PILHANGKO_NO_HANDLE);
     IS(pilhangko_memory_type_rename(&type, &piece, NULL), PILHANGKO_NO_HANDLE);
+    IS(pilhangko_memory_type_set_word(&type, &piece, 1), PILHANGKO_NO_HANDLE);
     IS(pilhangko_memory_type_is_live(&type, &piece, &to.is_live), PILHANGKO_NO_HANDLE);
     IS(pilhangko_memory_type_set_budget(&type, true, 1), PILHANGKO_NO_HANDLE);
     IS(pilhangko_memory_type_block(&type, 0, &to.gone), PILHANGKO_NO_HANDLE);
@@ -346,6 +386,8 @@ static void null_pointers_of_calls(void) {
     IS(pilhangko_memory_type_free(&type, &piece, NULL), PILHANGKO_NULL_POINTER);
     IS(pilhangko_memory_type_rename(NULL, &piece, NULL), PILHANGKO_NULL_POINTER);
     IS(pilhangko_memory_type_rename(&type, NULL, NULL), PILHANGKO_NULL_POINTER);
+    IS(pilhangko_memory_type_set_word(NULL, &piece, 1), PILHANGKO_NULL_POINTER);
+    IS(pilhangko_memory_type_set_word(&type, NULL, 1), PILHANGKO_NULL_POINTER);
     IS(pilhangko_memory_type_is_live(NULL, &piece, &to.is_live), PILHANGKO_NULL_POINTER);
     IS(pilhangko_memory_type_is_live(&type, NULL, &to.is_live), PILHANGKO_NULL_POINTER);
     IS(pilhangko_memory_type_is_live(&type, &piece, NULL), PILHANGKO_NULL_POINTER);
@@ -383,6 +425,7 @@ int main(void) {
     names_of_pieces();
     sides();
     budgets();
+    words();
     awaited();
     request_and_piece_statuses();
     unmade_memory_type();

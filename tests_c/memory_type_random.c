@@ -127,8 +127,13 @@ static void look(void) {
     bool is_live;
     IS(pilhangko_memory_type_is_live(&type, &piece, &is_live), PILHANGKO_OK);
     CHECK(is_live == (type_find(&account, &piece) >= 0));
+    static uint64_t word;
     IS(pilhangko_memory_type_rename(&type, &piece, "another name"), is_live ? PILHANGKO_OK : PILHANGKO_NOT_LIVE);
-    if (is_live) account.slots[piece.slot].account.chunks[type_find(&account, &piece)].name = "another name";
+    IS(pilhangko_memory_type_set_word(&type, &piece, ++word), is_live ? PILHANGKO_OK : PILHANGKO_NOT_LIVE);
+    if (!is_live) return;
+    struct chunk *c = &account.slots[piece.slot].account.chunks[type_find(&account, &piece)];
+    c->name = "another name";
+    c->word = word;
 }
 
 static void step(void) {

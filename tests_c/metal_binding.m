@@ -47,7 +47,7 @@ static void ends(pilhangko_metal *metal, uint64_t leaks) {
 }
 
 static pilhangko_metal_request asks(uint64_t size, pilhangko_location location) {
-    pilhangko_metal_request r = {size, 256, location, "row"};
+    pilhangko_metal_request r = {size, 256, location, "row", 0};
     return r;
 }
 
@@ -104,9 +104,20 @@ static void memory_rows(void) {
     ends(&metal, 5);
 }
 
+/* A visit shows an allocation's word, too. */
+static void has_word(const pilhangko_metal *metal, const pilhangko_metal_allocation *a, uint64_t expected) {
+    pilhangko_piece_view view;
+    size_t shown;
+    uint64_t word = 9;
+    IS(pilhangko_metal_user_data(metal, a, &word), PILHANGKO_OK);
+    IS(pilhangko_metal_heaps_pieces(pilhangko_metal_allocator(metal), a->piece.memory_type, a->piece.piece.slot, a->offset, &view, 1, &shown),
+        PILHANGKO_OK);
+    CHECK(word == expected && shown == 1 && view.number == a->piece.piece.number && view.word == expected);
+}
+
 /* Each kind is as long as it was asked for, at the size and the alignment that the device told. */
 static void resource_rows(void) {
-    const pilhangko_metal_placement shared = {PILHANGKO_LOCATION_CPU_TO_GPU, "vertices"}, own = {PILHANGKO_LOCATION_GPU_ONLY, NULL};
+    const pilhangko_metal_placement shared = {PILHANGKO_LOCATION_CPU_TO_GPU, "vertices", 3}, own = {PILHANGKO_LOCATION_GPU_ONLY, NULL, 4};
     pilhangko_metal metal = fake_binding();
     MTLTextureDescriptor *descriptor = [[MTLTextureDescriptor alloc] init];
     id<MTLBuffer> buffer = nil;
@@ -125,6 +136,7 @@ static void resource_rows(void) {
     is_at(&at[2], 3, 16384, 32768, 0); /* 20,000 bytes in whole 16,384 */
     CHECK([texture heapOffset] == 16384 && [descriptor resourceOptions] == 0);
     CHECK([buffer retainCount] == 1 && [texture retainCount] == 1 && [structure retainCount] == 1);
+    for (unsigned i = 0; i < 3; i++) has_word(&metal, &at[i], i == 0 ? 3 : 4);
     [buffer release];
     [texture release];
     [structure release];
@@ -144,7 +156,7 @@ static void request_rows(void) {
     IS(pilhangko_metal_read_texture_request(&metal, descriptor, PILHANGKO_LOCATION_GPU_ONLY, NULL, &r), PILHANGKO_OK);
     CHECK(r.size == 16384 && r.alignment == 16384 && r.location == PILHANGKO_LOCATION_GPU_ONLY && r.name == NULL);
     IS(pilhangko_metal_read_acceleration_structure_request(&metal, 1, PILHANGKO_LOCATION_GPU_ONLY, "s", &r), PILHANGKO_OK);
-    CHECK(r.size == 256 && r.alignment == 256 && strcmp(r.name, "s") == 0);
+    CHECK(r.size == 256 && r.alignment == 256 && strcmp(r.name, "s") == 0 && r.user_data == 0);
     const pilhangko_metal_allocation a = allocates(&metal, &r);
     is_at(&a, 2, 0, 256, 0);
     [descriptor release];
@@ -172,19 +184,17 @@ static void settings_rows(void) {
 /* What the allocator behind it tells. */
 static void told_rows(void) {
     pilhangko_metal metal = fake_binding();
-    const pilhangko_metal_request r = asks(100, PILHANGKO_LOCATION_GPU_TO_CPU);
+    pilhangko_metal_request r = asks(100, PILHANGKO_LOCATION_GPU_TO_CPU);
+    r.user_data = UINT64_MAX;
     const pilhangko_metal_allocation a = allocates(&metal, &r);
     const pilhangko_metal_heaps *heaps = pilhangko_metal_allocator(&metal);
     pilhangko_type_statistics type;
     char text[512];
     size_t length = 0;
-    uint64_t word = 9;
-    IS(pilhangko_metal_user_data(&metal, &a, &word), PILHANGKO_OK);
-    CHECK(word == 0);
+    has_word(&metal, &a, UINT64_MAX);
     IS(pilhangko_metal_set_user_data(&metal, &a, 77), PILHANGKO_OK);
     IS(pilhangko_metal_rename(&metal, &a, "depth"), PILHANGKO_OK);
-    IS(pilhangko_metal_user_data(&metal, &a, &word), PILHANGKO_OK);
-    CHECK(word == 77);
+    has_word(&metal, &a, 77);
     IS(pilhangko_metal_lock(&metal), PILHANGKO_OK);
     IS(pilhangko_metal_heaps_type_statistics(heaps, 2, &type), PILHANGKO_OK);
     CHECK(type.pieces == 1 && type.capacity == 4 * MB);
@@ -325,7 +335,7 @@ static void small_null_pointers(pilhangko_metal *m) {
 
 static void empty_handles_and_null(void) {
     const pilhangko_metal_request r = asks(1, PILHANGKO_LOCATION_GPU_ONLY);
-    const pilhangko_metal_placement placement = {PILHANGKO_LOCATION_GPU_ONLY, NULL};
+    const pilhangko_metal_placement placement = {PILHANGKO_LOCATION_GPU_ONLY, NULL, 0};
     MTLTextureDescriptor *descriptor = [[MTLTextureDescriptor alloc] init];
     pilhangko_metal empty = {0}, metal = fake_binding();
     pilhangko_metal_allocation a;
@@ -363,8 +373,8 @@ static void is_refused(pilhangko_metal *metal, const pilhangko_metal_request *r,
 
 static void invalid_requests(void) {
     pilhangko_metal metal = fake_binding();
-    const pilhangko_metal_placement placement = {PILHANGKO_LOCATION_GPU_ONLY, NULL}, named = {PILHANGKO_LOCATION_GPU_ONLY, "\xff"},
-                                    nowhere = {(pilhangko_location)9, NULL};
+    const pilhangko_metal_placement placement = {PILHANGKO_LOCATION_GPU_ONLY, NULL, 0}, named = {PILHANGKO_LOCATION_GPU_ONLY, "\xff", 0},
+                                    nowhere = {(pilhangko_location)9, NULL, 0};
     pilhangko_metal_allocation a = {.serial = 6};
     id<MTLBuffer> buffer = nil;
     pilhangko_metal_request r = asks(0, PILHANGKO_LOCATION_GPU_ONLY);
@@ -423,8 +433,8 @@ struct thing {
     pilhangko_metal_allocation allocation;
 };
 
-static const pilhangko_metal_placement placements[] = {{PILHANGKO_LOCATION_GPU_ONLY, "a name that takes host memory of its own"},
-    {PILHANGKO_LOCATION_CPU_TO_GPU, NULL}, {PILHANGKO_LOCATION_GPU_TO_CPU, "own"}};
+static const pilhangko_metal_placement placements[] = {{PILHANGKO_LOCATION_GPU_ONLY, "a name that takes host memory of its own", 0},
+    {PILHANGKO_LOCATION_CPU_TO_GPU, NULL, 0}, {PILHANGKO_LOCATION_GPU_TO_CPU, "own", 0}};
 
 static pilhangko_status makes_texture(pilhangko_metal *metal, NSUInteger bytes, const pilhangko_metal_placement *p, struct thing *t) {
     MTLTextureDescriptor *descriptor = [[MTLTextureDescriptor alloc] init];
@@ -614,7 +624,7 @@ static void is_written(const char *expected) {
 
 static void captures_by_hand(void) {
     pilhangko_metal metal = captured(sizeof written.bytes);
-    const pilhangko_metal_placement placement = {PILHANGKO_LOCATION_GPU_TO_CPU, "two words\xc3\xa9"};
+    const pilhangko_metal_placement placement = {PILHANGKO_LOCATION_GPU_TO_CPU, "two words\xc3\xa9", 0};
     const pilhangko_metal_request own = asks(10, PILHANGKO_LOCATION_GPU_ONLY);
     pilhangko_metal_capture capture;
     pilhangko_metal_allocation a;

@@ -25,7 +25,7 @@ static pilhangko_metal binds(void) {
 }
 
 static pilhangko_metal_request request_for(uint64_t size) {
-    const pilhangko_metal_request request = {size, 64, PILHANGKO_LOCATION_GPU_ONLY, NULL};
+    const pilhangko_metal_request request = {size, 64, PILHANGKO_LOCATION_GPU_ONLY, NULL, 0};
     return request;
 }
 
@@ -34,8 +34,14 @@ static pilhangko_status asks(pilhangko_metal *metal, const pilhangko_metal_reque
 }
 
 static uint64_t word_of(const pilhangko_metal *metal, const pilhangko_metal_allocation *allocation) {
+    const pilhangko_heaps_piece *piece = &allocation->piece;
+    pilhangko_piece_view view;
+    size_t shown;
     uint64_t word;
     IS(pilhangko_metal_user_data(metal, allocation, &word), PILHANGKO_OK);
+    IS(pilhangko_metal_heaps_pieces(
+           pilhangko_metal_allocator(metal), piece->memory_type, piece->piece.slot, piece->piece.offset, &view, 1, &shown), PILHANGKO_OK);
+    CHECK(shown == 1 && view.number == piece->piece.number && view.word == word);
     return word;
 }
 
@@ -62,7 +68,7 @@ static void ends(pilhangko_metal *metal) {
 #define BUFFERS 3 /* of 2 MB, two in the lower heap and one in the upper one */
 
 static id<MTLBuffer> makes(pilhangko_metal *metal, pilhangko_metal_movable *movable) {
-    const pilhangko_metal_placement placement = {PILHANGKO_LOCATION_GPU_ONLY, NULL};
+    const pilhangko_metal_placement placement = {PILHANGKO_LOCATION_GPU_ONLY, NULL, 0};
     id<MTLBuffer> buffer = nil;
     IS(pilhangko_metal_create_buffer(metal, 2 * MB, &placement, &buffer, &movable->allocation), PILHANGKO_OK);
     IS(pilhangko_metal_read_buffer_request(metal, 2 * MB, placement.location, NULL, &movable->request), PILHANGKO_OK);

@@ -182,6 +182,8 @@ static void out_of_turn(void) {
     CHECK(back.exists && back.heap == 3 && back.leaves);
     IS(pilhangko_metal_heaps_rename(&h, &piece, "name"), PILHANGKO_AWAITS_ANSWER);
     IS(pilhangko_metal_heaps_rename(&h, &kept.piece, "\xff"), PILHANGKO_AWAITS_ANSWER);
+    IS(pilhangko_metal_heaps_set_word(&h, &piece, 1), PILHANGKO_AWAITS_ANSWER);
+    IS(pilhangko_metal_heaps_set_word(&h, &kept.piece, 1), PILHANGKO_AWAITS_ANSWER);
     IS(pilhangko_metal_heaps_set_budget(&h, 0, true, 1), PILHANGKO_AWAITS_ANSWER);
     IS(pilhangko_metal_heaps_set_budget(&h, 9, true, 1), PILHANGKO_AWAITS_ANSWER);
     is_live(&h, &piece, true);
@@ -263,12 +265,49 @@ static void piece_statuses(void) {
         IS(pilhangko_metal_heaps_free(&h, &wrong, &back), PILHANGKO_NOT_LIVE);
         IS(pilhangko_metal_heaps_rename(&h, &wrong, "name"), PILHANGKO_NOT_LIVE);
         IS(pilhangko_metal_heaps_rename(&h, &wrong, "\xff"), PILHANGKO_INVALID);
+        IS(pilhangko_metal_heaps_set_word(&h, &wrong, 1), PILHANGKO_NOT_LIVE);
     }
     CHECK(back.exists && back.heap == 3 && back.leaves);
     IS(pilhangko_metal_heaps_rename(&h, &piece, "\xf5"), PILHANGKO_INVALID);
     IS(pilhangko_metal_heaps_rename(&h, &piece, "another name"), PILHANGKO_OK);
     frees(&h, &piece, false, 0, false);
     IS(pilhangko_metal_heaps_free(&h, &piece, &back), PILHANGKO_NOT_LIVE);
+    IS(pilhangko_metal_heaps_destroy(&h), PILHANGKO_OK);
+}
+
+/* ---- words */
+
+static void has_word(const pilhangko_metal_heaps *h, const pilhangko_heaps_piece *piece, uint64_t expected) {
+    pilhangko_piece_view view = {.word = 77};
+    size_t shown;
+    IS(pilhangko_metal_heaps_pieces(h, piece->memory_type, piece->piece.slot, piece->piece.offset, &view, 1, &shown), PILHANGKO_OK);
+    CHECK(shown == 1 && view.number == piece->piece.number && view.word == expected);
+}
+
+/* A word stays through renames, also of a piece that has a heap of its own, and the next piece in its place has none. */
+static void words(void) {
+    pilhangko_metal_heaps h = made();
+    pilhangko_metal_heaps_request r = asks_device(100), large = asks_device(9 * MB);
+    pilhangko_metal_heaps_progress p;
+    pilhangko_heaps_piece piece, own;
+    IS(pilhangko_metal_heaps_begin(&h, &r, NULL, &p), PILHANGKO_OK);
+    piece = granted(&h, 1, true);
+    IS(pilhangko_metal_heaps_begin(&h, &large, "own", &p), PILHANGKO_OK);
+    own = granted(&h, 2, true);
+    has_word(&h, &piece, 0);
+    has_word(&h, &own, 0);
+    IS(pilhangko_metal_heaps_set_word(&h, &piece, UINT64_MAX), PILHANGKO_OK);
+    IS(pilhangko_metal_heaps_set_word(&h, &own, 7), PILHANGKO_OK);
+    IS(pilhangko_metal_heaps_rename(&h, &piece, "a name that takes host memory of its own"), PILHANGKO_OK);
+    IS(pilhangko_metal_heaps_rename(&h, &own, NULL), PILHANGKO_OK);
+    has_word(&h, &piece, UINT64_MAX);
+    has_word(&h, &own, 7);
+    frees(&h, &piece, false, 0, false);
+    IS(pilhangko_metal_heaps_begin(&h, &r, NULL, &p), PILHANGKO_OK);
+    is_piece(&p.piece, 0, 0, 3, 0, 100, 1);
+    IS(pilhangko_metal_heaps_set_word(&h, &piece, 1), PILHANGKO_NOT_LIVE);
+    has_word(&h, &p.piece, 0);
+    has_word(&h, &own, 7);
     IS(pilhangko_metal_heaps_destroy(&h), PILHANGKO_OK);
 }
 
@@ -419,6 +458,7 @@ static void each_call(pilhangko_metal_heaps *h, bool tells, pilhangko_status exp
     IS(pilhangko_metal_heaps_leak(h, 0, text, 1, tells ? &count : NULL), expected);
     if (!tells) return;
     IS(pilhangko_metal_heaps_rename(h, &piece, NULL), expected);
+    IS(pilhangko_metal_heaps_set_word(h, &piece, 1), expected);
     IS(pilhangko_metal_heaps_set_budget(h, 0, true, 1), expected);
     IS(pilhangko_metal_heaps_destroy(h), expected);
 }
@@ -438,6 +478,7 @@ static void empty_handles_and_null(void) {
     IS(pilhangko_metal_heaps_begin(&h, NULL, NULL, &p), PILHANGKO_NULL_POINTER);
     IS(pilhangko_metal_heaps_free(&h, NULL, &back), PILHANGKO_NULL_POINTER);
     IS(pilhangko_metal_heaps_rename(&h, NULL, NULL), PILHANGKO_NULL_POINTER);
+    IS(pilhangko_metal_heaps_set_word(&h, NULL, 1), PILHANGKO_NULL_POINTER);
     IS(pilhangko_metal_heaps_is_live(&h, NULL, &live), PILHANGKO_NULL_POINTER);
     IS(pilhangko_metal_heaps_pieces(&h, 0, 0, 0, NULL, 1, &count), PILHANGKO_NULL_POINTER);
     IS(pilhangko_metal_heaps_piece_names(&h, 0, 0, 0, NULL, 1, text, 1, &count), PILHANGKO_NULL_POINTER);
@@ -455,6 +496,7 @@ int main(void) {
     budgets();
     request_statuses();
     piece_statuses();
+    words();
     visits();
     empty_handles_and_null();
     return 0;

@@ -122,7 +122,12 @@ static void renames(void) {
     if (!is_text) status = PILHANGKO_INVALID;
     if (account.awaits_heap) status = PILHANGKO_AWAITS_ANSWER;
     IS(pilhangko_metal_heaps_rename(&heaps, &piece, name), status);
-    if (status == PILHANGKO_OK) account.types[piece.memory_type].slots[piece.piece.slot].account.chunks[at].name = name ? name : "";
+    if (status != PILHANGKO_OK) return;
+    static uint64_t word;
+    struct chunk *c = &account.types[piece.memory_type].slots[piece.piece.slot].account.chunks[at];
+    IS(pilhangko_metal_heaps_set_word(&heaps, &piece, ++word), PILHANGKO_OK);
+    c->name = name ? name : "";
+    c->word = word;
 }
 
 /* A second place for a piece, at times by a request that isn't of it. */
@@ -184,7 +189,8 @@ static void looks_at_slot(size_t type, size_t slot) {
     for (size_t i = 0, at = 0; i < count; i++, at++) {
         while (!s->account.chunks[at].kind) at++;
         const struct chunk *c = &s->account.chunks[at];
-        CHECK(views[i].number == c->number && views[i].start == c->start && views[i].offset == c->offset && views[i].end == c->end);
+        CHECK(views[i].number == c->number && views[i].start == c->start && views[i].offset == c->offset && views[i].end == c->end &&
+              views[i].word == c->word);
     }
 }
 

@@ -149,7 +149,7 @@ static bool is_untouched(const pilhangko_metal_allocation *a) {
 
 static void allocates(void) {
     pilhangko_metal_request r = {random_below(100) ? some_size() : 0, UINT64_C(1) << random_below(17),
-        (pilhangko_location)(random_below(100) ? 1 + random_below(4) : random_below(7)), SOME_NAME};
+        (pilhangko_location)(random_below(100) ? 1 + random_below(4) : random_below(7)), SOME_NAME, 0};
     if (random_below(100) == 0) r.alignment = random_below(8);
     const pilhangko_metal_heaps_request asks = {r.size, r.alignment, r.location};
     struct live it = {untouched(), nil, r.alignment, 0};
@@ -211,7 +211,7 @@ static void is_unmade(void) {
 static void creates(void) {
     const unsigned kind = (unsigned)random_below(3);
     const NSUInteger unit = kind == 0 ? FAKE_TEXTURE_UNIT : FAKE_UNIT, length = (some_size() + 3) / 4 * 4;
-    const pilhangko_metal_placement placement = {(pilhangko_location)(1 + random_below(4)), SOME_NAME};
+    const pilhangko_metal_placement placement = {(pilhangko_location)(1 + random_below(4)), SOME_NAME, 0};
     const pilhangko_metal_heaps_request asks = {(length + unit - 1) / unit * unit, unit, placement.location};
     struct live it = {untouched(), nil, unit, 0};
     uint64_t questions = fake.questions;
@@ -293,7 +293,7 @@ static void moves_one(void) {
     const size_t i = live_at(&a), type = a.piece.memory_type;
     const bool is_live = i < live_count;
     const pilhangko_metal_request r = {
-        random_below(20) ? a.size : a.size + 1, is_live ? live[i].alignment : 1, (pilhangko_location)(2 + type % METAL_TYPES), SOME_NAME};
+        random_below(20) ? a.size : a.size + 1, is_live ? live[i].alignment : 1, (pilhangko_location)(2 + type % METAL_TYPES), SOME_NAME, 0};
     const pilhangko_memory_request asks = {a.size, r.alignment, PILHANGKO_KIND_LINEAR, false};
     const pilhangko_status valid = r.size == a.size ? PILHANGKO_OK : PILHANGKO_INVALID;
     const pilhangko_status status = is_live ? valid : (pilhangko_status)PILHANGKO_NOT_LIVE;
@@ -334,7 +334,7 @@ static pilhangko_kind kind_of(const struct live *it) {
 
 static pilhangko_metal_request request_again(const struct live *it) {
     const pilhangko_metal_request r = {
-        it->allocation.size, it->alignment, (pilhangko_location)(2 + it->allocation.piece.memory_type), SOME_NAME};
+        it->allocation.size, it->alignment, (pilhangko_location)(2 + it->allocation.piece.memory_type), SOME_NAME, 0};
     return r;
 }
 

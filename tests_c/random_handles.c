@@ -16,8 +16,8 @@ int main(void) {
         }
         CHECK(LLVMFuzzerTestOneInput(row, length) == 0);
     }
-    printf("%u rows: %zu pieces of virtual blocks, %zu of memory types, %zu in new blocks of allocators, %zu of rings\n", ROWS,
-        fuzz_pieces[0], fuzz_pieces[1], fuzz_pieces[2], fuzz_pieces[3]);
-    for (unsigned i = 0; i < 4; i++) CHECK(fuzz_pieces[i] > 5000);
+    printf("%u rows: %zu pieces of virtual blocks, %zu of memory types, %zu in new blocks of allocators, %zu of rings, %zu requests of captures\n",
+        ROWS, fuzz_pieces[0], fuzz_pieces[1], fuzz_pieces[2], fuzz_pieces[3], fuzz_pieces[4]);
+    for (unsigned i = 0; i < 5; i++) CHECK(fuzz_pieces[i] > 5000);
     return 0;
 }

@@ -142,6 +142,42 @@ static void all_names(void) {
     CHECK(shown == 0 && !strcmp(names, "piecename??"));
 }
 
+static void has_word(const pilhangko_virtual_block *block, uint64_t expected) {
+    pilhangko_piece_view view = {.word = 77}, views[1] = {{.word = 77}};
+    size_t shown;
+    IS(pilhangko_virtual_block_next_piece(block, 0, &view), PILHANGKO_OK);
+    IS(pilhangko_virtual_block_pieces(block, 0, views, 1, &shown), PILHANGKO_OK);
+    CHECK(view.exists && view.word == expected && shown == 1 && views[0].word == expected);
+}
+
+/* A word stays through renames, and the next piece in its place has none. */
+static void words(void) {
+    pilhangko_virtual_block block = {0};
+    pilhangko_virtual_piece piece, again;
+    pilhangko_piece_view view = {.word = 77};
+    IS(pilhangko_virtual_block_create(&block, 100, 1), PILHANGKO_OK);
+    IS(pilhangko_virtual_block_next_piece(&block, 0, &view), PILHANGKO_OK);
+    CHECK(!view.exists && view.word == 0);
+    allocates(&block, 10, 1, PILHANGKO_KIND_LINEAR, 0, 2, &piece);
+    has_word(&block, 0);
+    IS(pilhangko_virtual_block_set_word(&block, &piece, UINT64_MAX), PILHANGKO_OK);
+    has_word(&block, UINT64_MAX);
+    IS(pilhangko_virtual_block_set_word(&block, &piece, 7), PILHANGKO_OK);
+    IS(pilhangko_virtual_block_rename(&block, &piece, "a name that takes host memory of its own"), PILHANGKO_OK);
+    has_word(&block, 7);
+    IS(pilhangko_virtual_block_rename(&block, &piece, NULL), PILHANGKO_OK);
+    has_word(&block, 7);
+    IS(pilhangko_virtual_block_free(&block, &piece), PILHANGKO_OK);
+    allocates(&block, 10, 1, PILHANGKO_KIND_LINEAR, 0, 3, &again);
+    IS(pilhangko_virtual_block_set_word(&block, &piece, 8), PILHANGKO_NOT_LIVE);
+    has_word(&block, 0);
+    IS(pilhangko_virtual_block_set_word(&block, &again, 9), PILHANGKO_OK);
+    IS(pilhangko_virtual_block_clear(&block), PILHANGKO_OK);
+    allocates(&block, 10, 1, PILHANGKO_KIND_LINEAR, 0, 2, &again);
+    has_word(&block, 0);
+    IS(pilhangko_virtual_block_destroy(&block), PILHANGKO_OK);
+}
+
 static void readings_of_no_block(void) {
     pilhangko_virtual_block block = {0};
     pilhangko_virtual_statistics s = {.size = 3};
@@ -196,6 +232,7 @@ static void handle_statuses(void) {
     size_t count = 5;
     IS(pilhangko_virtual_block_free(&block, &piece), PILHANGKO_NO_HANDLE);
     IS(pilhangko_virtual_block_rename(&block, &piece, "a"), PILHANGKO_NO_HANDLE);
+    IS(pilhangko_virtual_block_set_word(&block, &piece, 1), PILHANGKO_NO_HANDLE);
     IS(pilhangko_virtual_block_clear(&block), PILHANGKO_NO_HANDLE);
     IS(pilhangko_virtual_block_leak_count(&block, &count), PILHANGKO_NO_HANDLE);
     CHECK(count == 5);
@@ -223,6 +260,7 @@ static void piece_statuses(void) {
         IS(pilhangko_virtual_block_free(&block, &wrong[i]), PILHANGKO_NOT_LIVE);
         IS(pilhangko_virtual_block_rename(&block, &wrong[i], "name"), PILHANGKO_NOT_LIVE);
         IS(pilhangko_virtual_block_rename(&block, &wrong[i], "\x80"), PILHANGKO_INVALID);
+        IS(pilhangko_virtual_block_set_word(&block, &wrong[i], 1), PILHANGKO_NOT_LIVE);
     }
     IS(pilhangko_virtual_block_rename(&block, &a, "\xed\xa0\x80"), PILHANGKO_INVALID); /* a surrogate */
     IS(pilhangko_virtual_block_rename(&block, &a, "another name"), PILHANGKO_OK);
@@ -251,6 +289,8 @@ static void null_pointers(void) {
     IS(pilhangko_virtual_block_free(&block, NULL), PILHANGKO_NULL_POINTER);
     IS(pilhangko_virtual_block_rename(NULL, &piece, NULL), PILHANGKO_NULL_POINTER);
     IS(pilhangko_virtual_block_rename(&block, NULL, NULL), PILHANGKO_NULL_POINTER);
+    IS(pilhangko_virtual_block_set_word(NULL, &piece, 1), PILHANGKO_NULL_POINTER);
+    IS(pilhangko_virtual_block_set_word(&block, NULL, 1), PILHANGKO_NULL_POINTER);
     IS(pilhangko_virtual_block_clear(NULL), PILHANGKO_NULL_POINTER);
     IS(pilhangko_virtual_block_leak_count(NULL, &count), PILHANGKO_NULL_POINTER);
     IS(pilhangko_virtual_block_leak_count(&block, NULL), PILHANGKO_NULL_POINTER);
@@ -296,6 +336,7 @@ int main(void) {
     visit_by_one_call();
     one_name();
     all_names();
+    words();
     readings_of_no_block();
     visit_of_many();
     allocate_statuses();

@@ -64,7 +64,8 @@ static void name(void) {
     size_t at = piece.number ? account_find(&account, piece.offset, piece.number) : account.count;
     bool live = at < account.count;
     IS(pilhangko_virtual_block_rename(&block, &piece, called), live ? PILHANGKO_OK : PILHANGKO_NOT_LIVE);
-    if (live) account.chunks[at].name = called ? called : "";
+    IS(pilhangko_virtual_block_set_word(&block, &piece, renamed + 1), live ? PILHANGKO_OK : PILHANGKO_NOT_LIVE);
+    if (live) account.chunks[at].name = called ? called : "", account.chunks[at].word = renamed + 1;
     renamed += live;
 }
 

@@ -582,6 +582,44 @@ static void readings(void) {
     ends(&vulkan, 1);
 }
 
+static void has_word(const pilhangko_vulkan *vulkan, const pilhangko_vulkan_allocation *a, uint64_t expected) {
+    pilhangko_vulkan_allocation_told told;
+    pilhangko_piece_view view;
+    size_t shown;
+    IS(pilhangko_vulkan_read_allocation(vulkan, a, &told), PILHANGKO_OK);
+    IS(pilhangko_allocator_pieces(pilhangko_vulkan_allocator(vulkan), a->piece.memory_type, a->piece.piece.slot, a->offset, &view, 1, &shown),
+        PILHANGKO_OK);
+    CHECK(told.user_data == expected && shown == 1 && view.number == a->piece.piece.number && view.word == expected);
+}
+
+/* A word is handed in with a request or a placement, and changed; a visit of the allocator's pieces shows it. */
+static void words(void) {
+    pilhangko_vulkan vulkan = fake_binding();
+    pilhangko_vulkan_request r = asks(100, 2, PILHANGKO_LOCATION_UNKNOWN);
+    pilhangko_vulkan_placement placement = on_gpu;
+    const VkBufferCreateInfo info = buffer_of(90);
+    pilhangko_vulkan_allocation b;
+    VkBuffer buffer;
+    r.user_data = UINT64_MAX;
+    placement.user_data = 8;
+    const pilhangko_vulkan_allocation a = allocates(&vulkan, &r);
+    IS(pilhangko_vulkan_create_buffer(&vulkan, &info, &placement, &buffer, &b).status, PILHANGKO_OK);
+    has_word(&vulkan, &a, UINT64_MAX);
+    has_word(&vulkan, &b, 8);
+    IS(pilhangko_vulkan_set_user_data(&vulkan, &a, 7), PILHANGKO_OK);
+    IS(pilhangko_vulkan_set_user_data(&vulkan, &b, 0), PILHANGKO_OK);
+    IS(pilhangko_vulkan_rename(&vulkan, &a, "a name that takes host memory of its own"), PILHANGKO_OK);
+    has_word(&vulkan, &a, 7);
+    has_word(&vulkan, &b, 0);
+    IS(pilhangko_vulkan_free(&vulkan, &a), PILHANGKO_OK);
+    r.user_data = 0;
+    const pilhangko_vulkan_allocation again = allocates(&vulkan, &r);
+    CHECK(again.memory == a.memory && again.offset == a.offset);
+    has_word(&vulkan, &again, 0);
+    IS(pilhangko_vulkan_destroy_buffer(&vulkan, buffer, &b), PILHANGKO_OK);
+    ends(&vulkan, 1);
+}
+
 /* ---- the driver refuses */
 
 static void is_refused(pilhangko_vulkan *vulkan, const pilhangko_vulkan_request *r, pilhangko_status status, VkResult driver) {
@@ -954,6 +992,7 @@ int main(void) {
     allocations_of_a_predecessor();
     stale_allocations();
     readings();
+    words();
     driver_refusals();
     each_question_refused();
     each_host_request_refused();

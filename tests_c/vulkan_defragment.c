@@ -29,8 +29,14 @@ static pilhangko_status asks(pilhangko_vulkan *vulkan, const pilhangko_vulkan_re
 }
 
 static uint64_t word_of(const pilhangko_vulkan *vulkan, const pilhangko_vulkan_allocation *allocation) {
+    const pilhangko_allocator_piece *piece = &allocation->piece;
     pilhangko_vulkan_allocation_told told;
+    pilhangko_piece_view view;
+    size_t shown;
     IS(pilhangko_vulkan_read_allocation(vulkan, allocation, &told), PILHANGKO_OK);
+    IS(pilhangko_allocator_pieces(
+           pilhangko_vulkan_allocator(vulkan), piece->memory_type, piece->piece.slot, piece->piece.offset, &view, 1, &shown), PILHANGKO_OK);
+    CHECK(shown == 1 && view.number == piece->piece.number && view.word == told.user_data);
     return told.user_data;
 }
 

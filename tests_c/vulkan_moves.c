@@ -77,6 +77,8 @@ static void a_second_place(void) {
     const pilhangko_vulkan_request request = asks(2 * MB, 31); /* its bits and location don't count */
     pilhangko_vulkan_allocation to, none;
     pilhangko_vulkan_allocation_told told;
+    pilhangko_piece_view view;
+    size_t shown;
     const uint64_t questions = fake.questions;
     bool moves = false;
     IS(pilhangko_vulkan_set_user_data(&s.vulkan, &s.first, 77), OK);
@@ -84,6 +86,8 @@ static void a_second_place(void) {
     CHECK(moves && to.memory == s.fourth.memory && to.offset == 0 && to.size == 2 * MB && !to.dedicated && fake.questions == questions);
     IS(pilhangko_vulkan_read_allocation(&s.vulkan, &to, &told), OK);
     CHECK(told.user_data == 77 && told.mapped == pilhangko_vulkan_mapped(&s.vulkan, &to) && told.mapped);
+    IS(pilhangko_allocator_pieces(pilhangko_vulkan_allocator(&s.vulkan), to.piece.memory_type, to.piece.piece.slot, 0, &view, 1, &shown), OK);
+    CHECK(shown == 1 && view.number == to.piece.piece.number && view.word == 77);
     is_live(&s.vulkan, &s.first, true);
     memset(&none, 7, sizeof none);
     IS(pilhangko_vulkan_propose_move(&s.vulkan, &s.second, &request, &moves, &none), OK);

@@ -268,6 +268,14 @@ impl MemoryType {
         })
     }
 
+    /// Keeps a word of the caller's with a live piece, as with a virtual block.
+    ///
+    /// The error: `Internal` where it isn't live.
+    pub fn set_word(&mut self, piece: &MemoryPiece, word: u64) -> Result<()> {
+        // SAFETY: the handle is this memory type's alone, and the piece outlives the call.
+        check(unsafe { raw::pilhangko_raw_memory_type_set_word(self.handle.as_ptr(), &piece.to_raw(), word) })
+    }
+
     /// Whether a piece is live.
     pub fn is_live(&self, piece: &MemoryPiece) -> bool {
         let mut is_live = false;

@@ -43,6 +43,8 @@ pub struct PieceView {
     pub end: u64,
     /// Its kind.
     pub kind: Kind,
+    /// The word that its owner keeps with it; 0 until one is set.
+    pub word: u64,
 }
 
 impl PieceView {
@@ -55,7 +57,7 @@ impl PieceView {
     pub(crate) fn shown(view: &raw::PieceView) -> Option<Self> {
         let chunk_id = NonZeroU64::new(view.number).filter(|_| view.exists)?;
         let kind = Kind::of(view.kind == raw::KIND_LINEAR);
-        Some(PieceView { chunk_id, start: view.start, offset: view.offset, end: view.end, kind })
+        Some(PieceView { chunk_id, start: view.start, offset: view.offset, end: view.end, kind, word: view.word })
     }
 }
 

@@ -132,6 +132,7 @@ pub(crate) struct PieceView {
     pub(crate) offset: u64,
     pub(crate) end: u64,
     pub(crate) kind: u32,
+    pub(crate) word: u64,
 }
 
 #[repr(C)]
@@ -451,6 +452,11 @@ extern "C" {
         name: *const u8,
         name_length: usize,
     ) -> u32;
+    pub(crate) fn pilhangko_raw_virtual_block_set_word(
+        block: *mut Handle,
+        piece: *const VirtualPiece,
+        word: u64,
+    ) -> u32;
     pub(crate) fn pilhangko_raw_virtual_block_clear(block: *mut Handle) -> u32;
     pub(crate) fn pilhangko_raw_virtual_block_statistics(block: *mut Handle, statistics: *mut VirtualStatistics)
         -> u32;
@@ -513,6 +519,11 @@ extern "C" {
         piece: *const MemoryPiece,
         name: *const u8,
         name_length: usize,
+    ) -> u32;
+    pub(crate) fn pilhangko_raw_memory_type_set_word(
+        memory_type: *mut Handle,
+        piece: *const MemoryPiece,
+        word: u64,
     ) -> u32;
     pub(crate) fn pilhangko_raw_memory_type_is_live(
         memory_type: *mut Handle,
@@ -619,6 +630,11 @@ extern "C" {
         piece: *const AllocatorPiece,
         name: *const u8,
         name_length: usize,
+    ) -> u32;
+    pub(crate) fn pilhangko_raw_allocator_set_word(
+        allocator: *mut Handle,
+        piece: *const AllocatorPiece,
+        word: u64,
     ) -> u32;
     pub(crate) fn pilhangko_raw_allocator_is_live(
         allocator: *mut Handle,
@@ -737,6 +753,7 @@ extern "C" {
         name: *const u8,
         name_length: usize,
     ) -> u32;
+    pub(crate) fn pilhangko_raw_heaps_set_word(heaps: *mut Handle, piece: *const HeapsPiece, word: u64) -> u32;
     pub(crate) fn pilhangko_raw_heaps_is_live(heaps: *mut Handle, piece: *const HeapsPiece, is_live: *mut bool) -> u32;
     pub(crate) fn pilhangko_raw_heaps_begin_committed(
         heaps: *mut Handle,

@@ -119,6 +119,15 @@ impl VirtualBlock {
         })
     }
 
+    /// Keeps a word of the caller's with a live piece, in place of the last one: an index or an address of what lies there, say, so that a visit of
+    /// the pieces leads to it. A new piece has 0, a rename keeps it, and it goes with the piece.
+    ///
+    /// The error: `Internal` where it isn't live.
+    pub fn set_word(&mut self, piece: VirtualPiece, word: u64) -> Result<()> {
+        // SAFETY: the handle is this block's alone, and the piece outlives the call.
+        check(unsafe { raw::pilhangko_raw_virtual_block_set_word(self.handle.as_ptr(), &piece.to_raw(), word) })
+    }
+
     /// Frees all pieces: the block is as `new` made it.
     ///
     /// The error: `HostOutOfMemory`, and all pieces stay.

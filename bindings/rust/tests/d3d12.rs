@@ -114,12 +114,22 @@ fn a_piece_moves_to_a_higher_heap() {
     let device = FakeDevice::new(2, 0);
     let mut a = allocator_over(&device);
     let wanted = bytes(2 * MB, UNIT);
-    let [first, second, third, fourth] = [(); 4].map(|()| a.allocate(&wanted).unwrap());
+    let [mut first, second, third, fourth] = [(); 4].map(|()| a.allocate(&wanted).unwrap());
+    let shown = |a: &Allocator, it: &Allocation| {
+        let pieces = a.named_pieces(it.memory_type_index(), it.memory_block_index()).unwrap();
+        pieces.iter().find(|piece| piece.view.offset == it.offset()).unwrap().view.word
+    };
+    assert_eq!((first.user_data(), shown(&a, &first)), (0, 0));
+    a.set_user_data(&mut first, u64::MAX).unwrap();
+    a.rename_allocation(&mut first, "renamed").unwrap();
     assert!(a.propose_move(&first, &wanted).unwrap().is_none()); // no heap has a gap
     a.free(third).unwrap();
     let to = a.propose_move(&first, &wanted).unwrap().unwrap();
     assert_eq!((to.memory_type_index(), to.offset(), to.size()), (0, 0, 2 * MB));
     assert!(a.is_live(&first) && a.is_live(&to));
+    for (word, it) in [(u64::MAX, &first), (u64::MAX, &to), (0, &second)] {
+        assert_eq!((it.user_data(), shown(&a, it)), (word, word));
+    }
     a.free(first).unwrap(); // done
     a.free(fourth).unwrap();
     let again = a.propose_move(&second, &wanted).unwrap().unwrap();
@@ -417,7 +427,8 @@ fn what_is_anothers_comes_back() {
     let b = second.allocate(&bytes(100, 4)).unwrap();
     assert!(first.is_live(&a) && !second.is_live(&a) && second.is_live(&b));
     assert!(second.rename_allocation(&mut a, "other").is_err());
-    assert_eq!(a.name(), Some("bytes"));
+    assert!(second.set_user_data(&mut a, 1).is_err());
+    assert_eq!((a.name(), a.user_data()), (Some("bytes"), 0));
     first.rename_allocation(&mut a, "other").unwrap();
     assert_eq!(a.name(), Some("other"));
     let (error, a) = second.free(a).unwrap_err();

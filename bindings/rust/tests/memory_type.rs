@@ -63,7 +63,11 @@ fn blocks_come_and_go() {
     let of_first = BlockStatistics { pieces: 2, piece_bytes: 150, gaps: 1, longest_gap: 4 * MB - 150 };
     assert_eq!(it.block_statistics(0), Some(of_first));
     assert_eq!((it.block_statistics(4), it.block(4), it.next_piece(4, 0)), (None, None, None));
+    it.set_word(&b, 7).unwrap();
+    it.set_word(&e, u64::MAX).unwrap();
     it.rename(&b, "second").unwrap();
+    let words = |slot| it.pieces(slot).unwrap().into_iter().map(|it| it.word).collect::<Vec<_>>();
+    assert_eq!((words(0), words(3)), (vec![0, 7], vec![u64::MAX]));
     let names: Vec<_> = it.named_pieces(0).unwrap().into_iter().map(|it| (it.view.offset, it.name)).collect();
     assert_eq!(names, [(0, "block".to_owned()), (100, "second".to_owned())]);
     assert_eq!(it.pieces(9).unwrap(), []);
@@ -72,7 +76,7 @@ fn blocks_come_and_go() {
     assert_eq!(it.free(&a), Ok(None));
     assert!(it.is_live(&b));
     assert_eq!(it.free(&b), Ok(Some(1001))); // without pieces, and another shared one is live
-    assert!(!it.is_live(&b) && it.free(&b).is_err());
+    assert!(!it.is_live(&b) && it.free(&b).is_err() && it.set_word(&b, 1).is_err());
     assert_eq!(it.free(&c), Ok(None)); // the last shared block stays
     assert_eq!(it.blocks().collect::<Vec<_>>(), [(1, 1002), (3, 1004)]);
 }

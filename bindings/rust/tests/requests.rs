@@ -536,17 +536,29 @@ fn an_allocation_keeps_a_word() {
     let driver = driver();
     let mut a = made(driver.device());
     let wanted = request(2 * MB, 4, 2, MemoryLocation::Unknown);
-    let mut live: Vec<Allocation> = (0..4).map(|_| a.allocate(&wanted).unwrap()).collect();
-    assert!(live.iter().all(|it| it.user_data() == 0));
-    live[0].set_user_data(u64::MAX);
+    let handed_in = |user_data| AllocationOptions { user_data, ..AllocationOptions::default() };
+    let mut live: Vec<Allocation> = (0..4).map(|word| a.allocate_with(&wanted, &handed_in(word)).unwrap()).collect();
+    let shown = |a: &Allocator, it: &Allocation| {
+        let pieces = a.named_pieces(it.memory_type_index(), it.memory_block_index()).unwrap();
+        pieces.iter().find(|piece| piece.view.offset == it.offset()).unwrap().view.word
+    };
+    for (word, it) in (0..).zip(&live) {
+        assert_eq!((it.user_data(), shown(&a, it)), (word, word));
+    }
+    a.set_user_data(&mut live[0], u64::MAX).unwrap();
     a.rename_allocation(&mut live[0], "renamed").unwrap();
     a.free(live.remove(2)).unwrap();
     let to = a.propose_move(&live[0], &wanted).unwrap().unwrap();
-    assert_eq!((live[0].user_data(), to.user_data(), live[1].user_data()), (u64::MAX, u64::MAX, 0));
+    assert_eq!((live[0].user_data(), to.user_data(), live[1].user_data()), (u64::MAX, u64::MAX, 1));
+    assert_eq!((shown(&a, &live[0]), shown(&a, &to), shown(&a, &live[1])), (u64::MAX, u64::MAX, 1));
+    assert!(made(driver.device()).set_user_data(&mut live[1], 9).is_err());
+    assert_eq!((live[1].user_data(), shown(&a, &live[1])), (1, 1));
     live.push(to);
     live.into_iter().for_each(|it| a.free(it).unwrap());
-    let null = Allocation::default();
+    let mut null = Allocation::default();
     assert_eq!((null.user_data(), a.read_block(&null).is_err()), (0, true));
+    a.set_user_data(&mut null, 5).unwrap();
+    assert_eq!((null.user_data(), null.is_null()), (5, true));
     drop(a);
     driver.assert_left_empty();
 }

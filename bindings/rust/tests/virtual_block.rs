@@ -70,9 +70,9 @@ fn pieces_are_shown_in_order_with_their_names() {
     let counted = VirtualStatistics { size: 1000, pieces: 3, piece_bytes: 90, gaps: 1, longest_gap: 910 };
     assert_eq!(block.statistics(), counted);
     let shown = [
-        PieceView { chunk_id: first.chunk_id, start: 0, offset: 0, end: 10, kind: Kind::Linear },
-        PieceView { chunk_id: second.chunk_id, start: 10, offset: 64, end: 74, kind: Kind::NonLinear },
-        PieceView { chunk_id: third.chunk_id, start: 74, offset: 80, end: 90, kind: Kind::NonLinear },
+        PieceView { chunk_id: first.chunk_id, start: 0, offset: 0, end: 10, kind: Kind::Linear, word: 0 },
+        PieceView { chunk_id: second.chunk_id, start: 10, offset: 64, end: 74, kind: Kind::NonLinear, word: 0 },
+        PieceView { chunk_id: third.chunk_id, start: 74, offset: 80, end: 90, kind: Kind::NonLinear, word: 0 },
     ];
     assert_eq!(block.pieces().unwrap(), shown);
     let named: Vec<_> = block.named_pieces().unwrap().into_iter().map(|it| (it.view, it.name)).collect();
@@ -80,6 +80,22 @@ fn pieces_are_shown_in_order_with_their_names() {
     assert_eq!(named, shown.into_iter().zip(names).collect::<Vec<_>>());
     assert_eq!((block.next_piece(1), block.next_piece(81)), (Some(shown[1]), None));
     assert_eq!(shown[1].size(), 10);
+}
+
+#[test]
+fn a_piece_keeps_a_word() {
+    let mut block = VirtualBlock::new(1000, 1).unwrap();
+    let first = at(&mut block, request(10, 1, Kind::Linear), 0, 2);
+    let word = |block: &VirtualBlock| block.next_piece(0).map(|it| it.word);
+    assert_eq!(word(&block), Some(0));
+    block.set_word(first, u64::MAX).unwrap();
+    block.rename(first, "a name that takes host memory of its own").unwrap();
+    assert_eq!((word(&block), block.pieces().unwrap()[0].word), (Some(u64::MAX), u64::MAX));
+    block.free(first).unwrap();
+    is_not_live(block.set_word(first, 1));
+    at(&mut block, request(10, 1, Kind::Linear), 0, 3);
+    is_not_live(block.set_word(first, 1));
+    assert_eq!(word(&block), Some(0));
 }
 
 #[test]

@@ -18,6 +18,7 @@ pub struct Allocation {
     pub(super) number: u64,
     pub(super) heap: Interface,
     pub(super) name: String,
+    pub(super) user_data: u64,
 }
 
 impl Allocation {
@@ -58,6 +59,11 @@ impl Allocation {
     /// The name that it was allocated or renamed with.
     pub fn name(&self) -> Option<&str> {
         Some(&self.name)
+    }
+
+    /// The word of its owner's that it keeps, an index or an address, which visits of pieces show too; 0 until one is set.
+    pub fn user_data(&self) -> u64 {
+        self.user_data
     }
 
     /// The index of its memory type.

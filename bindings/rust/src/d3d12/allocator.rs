@@ -191,7 +191,8 @@ impl Allocator {
     /// What the owner of a new piece holds of it.
     fn held(&mut self, piece: HeapsPiece, name: String) -> Allocation {
         self.last_number += 1;
-        Allocation { piece, owner: self.owner, number: self.last_number, heap: heap_of(&piece), name }
+        let (owner, number, heap) = (self.owner, self.last_number, heap_of(&piece));
+        Allocation { piece, owner, number, heap, name, user_data: 0 }
     }
 
     /// Frees an allocation; its heap is released where it is left empty and isn't the only shared one of its memory type. It needs no host
@@ -214,7 +215,7 @@ impl Allocator {
     /// Looks for a second place for an allocation: the one that this request, which it was made for, would get as a new allocation now, if
     /// that lies in a heap that is looked at before its own; `None` where there is none. The driver isn't asked. Both are live then: make
     /// the resource anew at the second, copy, and free the first once the device has finished with both, which ends the move; or free the
-    /// second, which abandons it. The request's location and category aren't looked at.
+    /// second, which abandons it. The second has the first one's user data. The request's location and category aren't looked at.
     ///
     /// The errors, and then nothing changes: `HostOutOfMemory` of the binding's own, `Internal` where it isn't this allocator's,
     /// `InvalidAllocationCreateDesc`, also where the size isn't the allocation's, `HostOutOfMemory`.
@@ -226,7 +227,9 @@ impl Allocator {
         let own = copied(desc.name)?;
         self.owns(allocation.owner)?;
         let Some(piece) = self.machine.propose_move(&allocation.piece, desc)? else { return Ok(None) };
-        Ok(Some(self.held(piece, own)))
+        let mut second = self.held(piece, own);
+        self.set_user_data(&mut second, allocation.user_data).expect("a new piece is live");
+        Ok(Some(second))
     }
 
     /// Renames an allocation.
@@ -237,6 +240,16 @@ impl Allocator {
         self.owns(allocation.owner)?;
         self.machine.rename(&allocation.piece, name)?;
         allocation.name = own;
+        Ok(())
+    }
+
+    /// Keeps another word of its owner's with an allocation.
+    ///
+    /// The error, and then nothing changes: `Internal` where it isn't this allocator's.
+    pub fn set_user_data(&mut self, allocation: &mut Allocation, user_data: u64) -> Result<()> {
+        self.owns(allocation.owner)?;
+        self.machine.set_word(&allocation.piece, user_data)?;
+        allocation.user_data = user_data;
         Ok(())
     }
 

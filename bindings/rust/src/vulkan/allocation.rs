@@ -108,14 +108,9 @@ impl Allocation {
         self.name.as_deref()
     }
 
-    /// The word of its owner's that it keeps, an index or an address; 0 until one is set.
+    /// The word of its owner's that it keeps, an index or an address, which visits of pieces show too; 0 until one is set.
     pub fn user_data(&self) -> u64 {
         self.user_data
-    }
-
-    /// Keeps a word of its owner's.
-    pub fn set_user_data(&mut self, user_data: u64) {
-        self.user_data = user_data;
     }
 
     /// The index of its memory type; `usize::MAX` where it is null.

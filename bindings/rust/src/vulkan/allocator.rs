@@ -171,8 +171,11 @@ impl Allocator {
         let mut common = lock(&common);
         self.machine.follow(&common);
         let (bounds, mut answers) = (self.captured_bounds(), Answers::default());
-        let result = self.serve(&desc, preference.as_ref(), options.next, &mut common, &mut answers);
+        let mut result = self.serve(&desc, preference.as_ref(), options.next, &mut common, &mut answers);
         drop(common);
+        if let (Ok(it), true) = (&mut result, options.user_data != 0) {
+            self.set_user_data(it, options.user_data).expect("a new piece is live");
+        }
         self.record(&desc, by_flags, &result, &bounds, &answers);
         result
     }
@@ -235,6 +238,18 @@ impl Allocator {
             }
         }
         allocation.name = Some(own);
+        Ok(())
+    }
+
+    /// Keeps another word of its owner's with an allocation, a null one too.
+    ///
+    /// The error, and then nothing changes: `Internal` where it isn't this allocator's.
+    pub fn set_user_data(&mut self, allocation: &mut Allocation, user_data: u64) -> Result<()> {
+        if let Some(held) = &allocation.held {
+            self.owns(held)?;
+            self.machine.set_word(&held.piece, user_data)?;
+        }
+        allocation.user_data = user_data;
         Ok(())
     }
 

@@ -64,8 +64,10 @@ impl Allocator {
         }
         let Some(to) = to else { return Ok(None) };
         self.requests += 1;
-        let user_data = allocation.user_data;
-        Ok(Some(Allocation { held: Some(self.held(to, desc.allocation_scheme)), name: Some(own), user_data }))
+        let held = self.held(to, desc.allocation_scheme);
+        let mut second = Allocation { held: Some(held), name: Some(own), user_data: 0 };
+        self.set_user_data(&mut second, allocation.user_data).expect("a new piece is live");
+        Ok(Some(second))
     }
 
     /// Proposes the moves of a frame: of these allocations, each with the request that it was made for, those in the lowest slots first, so

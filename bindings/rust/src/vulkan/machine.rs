@@ -269,6 +269,12 @@ impl Machine {
         check(unsafe { raw::pilhangko_raw_allocator_rename(self.handle.as_ptr(), piece, name.as_ptr(), name.len()) })
     }
 
+    /// Keeps a word with a live piece.
+    pub(super) fn set_word(&mut self, piece: &AllocatorPiece, word: u64) -> Result<()> {
+        // SAFETY: the handle is this machine's alone, and the piece outlives the call.
+        check(unsafe { raw::pilhangko_raw_allocator_set_word(self.handle.as_ptr(), piece, word) })
+    }
+
     /// Whether a piece is live.
     pub(super) fn is_live(&self, piece: &AllocatorPiece) -> bool {
         let mut is_live = false;

@@ -30,6 +30,8 @@ pub struct AllocationOptions<'a> {
     pub avoided_flags: MemoryPropertyFlags,
     /// Whether only memory that is there is looked at, and the driver isn't asked.
     pub never_allocate: bool,
+    /// The word of its owner's that the allocation begins with.
+    pub user_data: u64,
 }
 
 /// Memory for which a feature has to be enabled.
