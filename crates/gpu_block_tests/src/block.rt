@@ -101,6 +101,13 @@ fn rename(block: &mut SubAllocator, chunk_id: u64, name: &str) -> Result<()>
     block.rename_allocation(NonZeroU64::new(chunk_id), name)
 }
 
+/// Keeps a word of the caller's with a piece. 0 stands for no number.
+fn set_word(block: &mut SubAllocator, chunk_id: u64, word: u64) -> Result<()>
+    ensures { (g : ℕ) → HasPages (block_of block.old) g → HasPages (block_of block.new) g }
+{
+    block.set_word(NonZeroU64::new(chunk_id), word)
+}
+
 /// Names, offsets and sizes of the live pieces.
 fn report_text(block: &SubAllocator, alloc: Global) -> Result<String> {
     let mut text = String::new(alloc);

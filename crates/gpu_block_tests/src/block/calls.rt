@@ -6,9 +6,11 @@ ghost use Rattle.gpu_block.specs.SubAllocator.{block_of};
 
 use self::Call::{
     Allocated, Finds, Frees, FreesNothing, IsGeneral, Leaks, Renames, RenamesNothing, Reports,
-    Size, Takes, TakesAligned, TakesImage, TakesNothing,
+    SetsNoWord, SetsWord, Size, Takes, TakesAligned, TakesImage, TakesNothing, Words,
 };
-use super::{MB, Request, allocate, dedicated, free, gave, general, linear, rename, report_text};
+use super::{
+    MB, Request, allocate, dedicated, free, gave, general, linear, rename, report_text, set_word,
+};
 use crate::steps::{prints, reads};
 use gpu_block::SubAllocator;
 use gpu_values::{AllocationType, Result};
@@ -31,6 +33,11 @@ pub enum Call {
     FreesNothing(u64, &'static str),
     Renames(u64, &'static str),
     RenamesNothing(u64, &'static str),
+    /// A word of the caller's is kept with a piece.
+    SetsWord(u64, u64),
+    SetsNoWord(u64, &'static str),
+    /// The words of the pieces, in order of offset.
+    Words(&'static [u64]),
     /// The place of a piece: its offset and size.
     Finds(u64, Option<(u64, u64)>),
     Reports(&'static str),
@@ -98,11 +105,22 @@ fn leaks_are(alloc: Global, block: &SubAllocator, at: (usize, usize), want: &[&s
     }
 }
 
+/// Whether these are the words of the pieces.
+fn words_are(block: &SubAllocator, want: &[u64]) -> bool {
+    for (piece, want) in block.pieces().zip(want) {
+        if piece.word() != *want {
+            return false;
+        }
+    }
+    block.pieces().count() == want.len()
+}
+
 /// Makes a call that only looks.
 fn looks(alloc: Global, block: &SubAllocator, call: Call) -> bool {
     match call {
         Finds(chunk_id, want) => place(block, chunk_id) == want,
         Reports(want) => reads(report_text(block, alloc), want),
+        Words(want) => words_are(block, want),
         Leaks(at, want) => leaks_are(alloc, block, at, want),
         Allocated(want) => block.allocated() == want && block.is_empty() == (want == 0),
         Size(want) => block.size() == want,
@@ -134,6 +152,8 @@ fn holds(alloc: Global, block: &mut SubAllocator, granularity: u64, call: Call) 
         FreesNothing(chunk_id, want) => refuses(alloc, free(block, chunk_id), want),
         Renames(chunk_id, name) => rename(block, chunk_id, name).is_ok(),
         RenamesNothing(chunk_id, want) => refuses(alloc, rename(block, chunk_id, "x"), want),
+        SetsWord(chunk_id, word) => set_word(block, chunk_id, word).is_ok(),
+        SetsNoWord(chunk_id, want) => refuses(alloc, set_word(block, chunk_id, 9), want),
         _ => looks(alloc, block, call),
     }
 }

@@ -5,8 +5,8 @@ ghost use Rattle.gpu_block.specs.Block.{HasPages};
 ghost use Rattle.gpu_block.specs.SubAllocator.{block_of};
 
 use super::calls::Call::{
-    self, Allocated, Finds, Frees, FreesNothing, IsGeneral, Renames, RenamesNothing, Reports, Size,
-    Takes, TakesAligned, TakesImage, TakesNothing,
+    self, Allocated, Finds, Frees, FreesNothing, IsGeneral, Renames, RenamesNothing, Reports,
+    SetsNoWord, SetsWord, Size, Takes, TakesAligned, TakesImage, TakesNothing, Words,
 };
 use super::calls::{check_calls, check_dedicated, check_list, count};
 use super::{MB, general};
@@ -47,6 +47,45 @@ fn a_dedicated_block_holds_one_piece_of_its_size(rt: HostRuntime) {
         FreesNothing(1, FREED_TWICE),
         FreesNothing(2, NOT_ONE),
         Allocated(0),
+    ];
+    check_dedicated(&rt, rt.alloc(), CALLS);
+}
+
+#[test]
+fn a_word_stays_with_its_piece(rt: HostRuntime) {
+    const CALLS: &[Call] = &[
+        Takes(10, "a", (0, 2)),
+        Takes(10, "b", (10, 3)),
+        Words(&[0, 0]),
+        SetsWord(3, u64::MAX),
+        SetsWord(2, 7),
+        Words(&[7, u64::MAX]),
+        Renames(2, "a name of more than 22 bytes"),
+        Words(&[7, u64::MAX]),
+        SetsNoWord(0, MISSING),
+        SetsNoWord(4, RENAMED_UNKNOWN),
+        Frees(2),
+        Words(&[u64::MAX]),
+        SetsNoWord(2, RENAMED_AFTER_FREE),
+        Takes(10, "c", (0, 2)),
+        Words(&[0, u64::MAX]),
+    ];
+    check_list(&rt, rt.alloc(), 1, CALLS);
+}
+
+#[test]
+fn a_word_stays_with_the_piece_of_a_dedicated_block(rt: HostRuntime) {
+    const CALLS: &[Call] = &[
+        SetsNoWord(1, RENAMED_AFTER_FREE),
+        Takes(1000, "a", (0, 1)),
+        Words(&[0]),
+        SetsWord(1, 7),
+        Renames(1, "b"),
+        Words(&[7]),
+        SetsNoWord(2, NOT_ONE),
+        Frees(1),
+        Takes(1000, "c", (0, 1)),
+        Words(&[0]),
     ];
     check_dedicated(&rt, rt.alloc(), CALLS);
 }

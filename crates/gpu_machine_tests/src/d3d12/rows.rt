@@ -71,6 +71,19 @@ fn questions_and_answers(alloc: Global) -> Result<[bool; 9]> {
     ])
 }
 
+/// The word of the first piece in the piece's block.
+fn first_word(m: &Machine, it: &Allocated) -> Option<u64> {
+    let mut pieces = m.memory_types().memory_type(3)?.pieces(it.piece.slot)?;
+    Some(pieces.next()?.word())
+}
+
+/// Whether a word is kept with the piece through a new name.
+fn keeps_word(m: &mut Machine, it: &Allocated) -> bool {
+    let before = first_word(m, it);
+    let set = m.set_word(3, &it.piece, 7).is_ok() && m.rename(3, &it.piece, "mesh").is_ok();
+    set && before == Some(0) && first_word(m, it) == Some(7)
+}
+
 /// Whether a name and a budget that leaves no room are set, and the budget is kept.
 fn is_named_and_bounded(m: &mut Machine, it: &Allocated) -> bool {
     let set = m.rename(3, &it.piece, "shadow map").is_ok()
@@ -109,16 +122,18 @@ fn goes_back(m: &mut Machine, it: &Allocated) -> bool {
 }
 
 /// A piece in a heap of its own, from its request to its end.
-fn a_piece_comes_and_goes(alloc: Global) -> Result<[bool; 6]> {
+fn a_piece_comes_and_goes(alloc: Global) -> Result<[bool; 8]> {
     let mut m = machine(alloc)?;
     let _ = m.begin(&upload(300_000_000))?;
     let it = m.granted(ID3D12Heap(3))?;
     Ok([
+        keeps_word(&mut m, &it),
         is_named_and_bounded(&mut m, &it),
         is_only_leak(alloc, &m, "shadow map"),
         holds(&m, 300_000_000),
         m.block(3, 0).is_some_and(|heap| heap.0 == 3),
         goes_back(&mut m, &it),
+        m.set_word(3, &it.piece, 9).is_err(),
         holds(&m, 0),
     ])
 }
