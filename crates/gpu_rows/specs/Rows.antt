@@ -1,0 +1,21 @@
+-- What callers see of rows.
+use Rattle.std.specs.Prelude.{ℕ, List, length, slice_set, refl}
+use Rattle.std.specs.Coded.{Coded, code_by, coded×, coded_ℕ, coded_list}
+
+-- the rows, in order, and how many there can be without taking memory
+pub record Rows (T : Type 0) : Type 0 where
+  pub items : List T
+  pub capacity : ℕ
+
+-- rows are stored as the pair of these
+abbrev pub rows_code : {T : Type 0} → Coded T → Coded (Rows T)
+rows_code {T} code = code_by (List T × ℕ) (coded× (coded_list code) coded_ℕ) (λ r. (r.items, r.capacity)) (λ p. record { items = p.0; capacity = p.1 }) (λ _. refl)
+
+module _ {T : Type 0} where
+  -- how many rows there are
+  abbrev pub row_count : Rows T → ℕ
+  row_count rows = length rows.items
+
+  -- the rows with another one at an index
+  abbrev pub with_row : Rows T → ℕ → T → Rows T
+  with_row rows index row = record rows { items = slice_set rows.items index row }

@@ -1,0 +1,208 @@
+//! Rows in pages of the same length, under a directory.
+
+ghost use Rattle.std.specs.Prelude.{◌≡◌, ◌+◌, ◌-◌, ◌*◌, ◌/◌, ◌<◌, ◌≤◌, ◌==◌, ◌↔◌, ℕ, max, [], ◌∷◌, ◌++◌, length, take, IsOk, IsSome, OnOk, OnErr, Some, slice_get, slice_index_or, vec_len, vec_capacity};
+ghost use Rattle.std.specs.Option.{option_copied, option_to_list};
+ghost use Rattle.std.specs.Borrow.{sem};
+ghost use Rattle.gpu_rows.specs.Rows.{row_count};
+ghost use Rattle.gpu_rows.specs.Pages.{rows_of, ArePages};
+
+use std::alloc::{AllocError, Global};
+use std::marker::Model;
+use std::ops::{Index, IndexMut};
+
+/// How many rows a page has.
+const PAGE: usize = 256;
+
+/// How many rows there can be at most.
+const MOST: usize = 1 << 62;
+
+/// A table's rows. Room comes in pages, which stay where they are: only the directory of the pages moves as it grows.
+#[derive(Drop)]
+pub struct Rows<T> {
+    pages: Vec<Vec<T>>,
+    len: usize,
+}
+
+impl<T> Model for Rows<T> {
+    ghost use Rattle.gpu_rows.specs.Rows.{Rows as Seen, rows_code};
+    ghost use Rattle.gpu_rows.specs.Pages.{seen_of, AreRows};
+
+    ghost Value = { Seen T };
+
+    ghost coded = { rows_code T.code };
+
+    ghost view = { λ r. seen_of r.pages.items };
+
+    ghost invariant = { λ r. AreRows r.pages.items r.len };
+}
+
+impl<T> Rows<T> {
+    ghost use Rattle.gpu_rows.specs.Lends.{lends_row};
+
+    /// No rows: no memory is taken.
+    pub fn new(alloc: Global) -> Rows<T>
+        ensures items { result.items ≡ [] }
+        ensures capacity { result.capacity ≡ 0 }
+    {
+        Rows {
+            pages: Vec::new(alloc),
+            len: 0,
+        }
+    }
+
+    /// How many rows there are.
+    #[inline(always)]
+    pub fn len(&self) -> usize
+        ensures value { result ≡ row_count self.now }
+        ensures fits { result ≤ self.now.capacity }
+    {
+        self.len
+    }
+
+    /// Whether there is no row.
+    #[inline(always)]
+    pub fn is_empty(&self) -> bool
+        ensures { result ≡ (row_count self.now == 0) }
+    {
+        self.len == 0
+    }
+
+    /// How many rows there can be without taking memory.
+    #[inline(always)]
+    pub fn capacity(&self) -> usize
+        ensures value { result ≡ self.now.capacity }
+        ensures fits { row_count self.now ≤ result }
+    {
+        self.pages.len() * PAGE
+    }
+
+    /// Where the memory of the rows comes from.
+    pub fn allocator(&self) -> &Global {
+        self.pages.allocator()
+    }
+
+    /// Makes room for that many more rows, in whole pages. No row moves. Pages that were taken before a refusal stay.
+    pub fn reserve(&mut self, more: usize) -> Result<(), AllocError>
+        ensures items { self.new.items ≡ self.old.items }
+        ensures ok { OnOk result (row_count self.new + more ≤ self.new.capacity) }
+        ensures capacity { self.old.capacity ≤ self.new.capacity }
+        ensures exact { OnOk result (self.new.capacity
+            ≡ max self.old.capacity (256 * ((row_count self.old + more + 255) / 256))) }
+        ensures most { self.new.capacity ≤ max self.old.capacity (row_count self.old + more + 255) }
+        ensures succeeds { row_count self.old + more ≤ self.old.capacity → IsOk result }
+        ensures full { OnErr result (self.old.capacity < row_count self.old + more) }
+    {
+        if more <= self.capacity() - self.len {
+            return Ok(());
+        }
+        if more > MOST.saturating_sub(self.len) {
+            return Err(AllocError);
+        }
+        let count = (self.len + more).div_ceil(PAGE);
+        add_pages(&mut self.pages, count)
+    }
+
+    /// Appends a row. There is room for it, so no memory is taken.
+    #[inline(always)]
+    pub fn push_reserved(&mut self, row: T)
+        requires { row_count self.old < self.old.capacity }
+        ensures items { self.new.items ≡ self.old.items ++ row ∷ [] }
+        ensures capacity { self.new.capacity ≡ self.old.capacity }
+    {
+        self.pages[self.len / PAGE].push_reserved(row);
+        self.len += 1;
+    }
+
+    /// Takes the last row out.
+    #[inline(always)]
+    pub fn pop(&mut self) -> Option<T>
+        ensures items { self.old.items ≡ self.new.items ++ option_to_list result }
+        ensures variant { IsSome result ↔ (0 < row_count self.old) }
+        ensures rest { self.new.items ≡ take (row_count self.old - 1) self.old.items }
+        ensures value { (d : T) → 0 < row_count self.old
+            → result ≡ Some (slice_index_or self.old.items (row_count self.old - 1) d) }
+        ensures capacity { self.new.capacity ≡ self.old.capacity }
+    {
+        if self.len == 0 {
+            return None;
+        }
+        self.len -= 1;
+        self.pages[self.len / PAGE].pop()
+    }
+
+    /// The row at an index, if there is one.
+    #[inline(always)]
+    pub fn get(&self, index: usize) -> Option<&T>
+        ensures { option_copied result ≡ slice_get self.now.items index }
+    {
+        if index >= self.len {
+            return None;
+        }
+        Some(self.at(index))
+    }
+
+    /// The row at an index that has one.
+    #[inline(always)]
+    pub fn at(&self, index: usize) -> &T
+        requires { index < row_count self.now }
+        ensures { result.now ≡ slice_index_or self.now.items index result.now }
+    {
+        &self.pages[index / PAGE][index % PAGE]
+    }
+
+    /// The row at an index that has one, for writing.
+    #[inline(always)]
+    pub fn at_mut(&mut self, index: usize) -> &mut T
+        requires { index < row_count self.old }
+        ensures* writes_back { sem 𝓛 (lends_row T.row self.entry index result) }
+        ensures value { result.now ≡ slice_index_or self.old.items index result.now }
+    {
+        let page = &mut self.pages[index / PAGE];
+        &mut page[index % PAGE]
+    }
+}
+
+impl<T> Index<usize> for Rows<T> {
+    type Output = T;
+
+    ghost can_index = { λ rows index. index < row_count rows };
+
+    ghost index_gives = { λ rows index row. row ≡ slice_index_or rows.items index row };
+
+    #[inline(always)]
+    fn index(&self, index: usize) -> &T {
+        self.at(index)
+    }
+}
+
+impl<T> IndexMut<usize> for Rows<T> {
+    ghost use Rattle.gpu_rows.specs.Lends.{lends_row};
+
+    #[inline(always)]
+    fn index_mut(&mut self, index: usize) -> &mut T
+        requires { index < row_count self.old }
+        ensures* writes_back { sem 𝓛 (lends_row T.row self.entry index result) }
+        ensures value { result.now ≡ slice_index_or self.old.items index result.now }
+    {
+        self.at_mut(index)
+    }
+}
+
+/// Adds empty pages up to that count. Pages that were taken before a refusal stay.
+fn add_pages<T>(pages: &mut Vec<Vec<T>>, count: usize) -> Result<(), AllocError>
+    requires pages { ArePages 256 pages.old.items (length (rows_of pages.old.items)) }
+    requires more { length pages.old.items ≤ count }
+    ensures pages { ArePages 256 pages.new.items (length (rows_of pages.new.items)) }
+    ensures rows { rows_of pages.new.items ≡ rows_of pages.old.items }
+    ensures ok { OnOk result (length pages.new.items ≡ count) }
+    ensures kept { length pages.old.items ≤ length pages.new.items }
+    ensures most { length pages.new.items ≤ count }
+{
+    let alloc = *pages.allocator();
+    pages.reserve(count - pages.len())?;
+    while pages.len() < count {
+        let page = Vec::with_capacity(alloc, PAGE)?;
+        pages.push_reserved(page);
+    }
+    Ok(())
+}
