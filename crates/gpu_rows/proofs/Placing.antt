@@ -1,6 +1,6 @@
 -- A table's rows in its pages of 256 rows.
 use Rattle.std.proofs.Common.{◌≡◌, ℕ, ◌+◌, ◌-◌, ◌*◌, ◌/◌, ◌%◌, ◌<◌, ◌≤◌, List, [], ◌∷◌, ◌++◌, length, get_or, set, take, vec_len, vec_capacity}
-use Rattle.std.proofs.Common.{Option, Some, None, IsSome, refl, sym, ◌∙◌, ap, arith, length-append}
+use Rattle.std.proofs.Common.{Option, Some, None, IsSome, refl, sym, ◌∙◌, ap, arith}
 use Rattle.std.proofs.lemmas.List.{length-set, length_push, take_at, get_or_push}
 use Rattle.std.specs.Int.{div_ceil}
 use Rattle.std.specs.Option.{option_to_list}
