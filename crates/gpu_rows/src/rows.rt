@@ -2,6 +2,7 @@
 
 ghost use Rattle.std.specs.Prelude.{◌≡◌, ◌+◌, ◌-◌, ◌*◌, ◌/◌, ◌<◌, ◌≤◌, ◌==◌, ◌↔◌, ℕ, max, [], ◌∷◌, ◌++◌, length, take, IsOk, IsSome, OnOk, OnErr, Some, slice_get, slice_index_or, vec_len, vec_capacity};
 ghost use Rattle.std.specs.Option.{option_copied, option_to_list};
+ghost use Rattle.std.specs.Slice.{IsItemAt};
 ghost use Rattle.std.specs.Borrow.{sem};
 ghost use Rattle.gpu_rows.specs.Rows.{row_count};
 ghost use Rattle.gpu_rows.specs.Pages.{rows_of, ArePages};
@@ -84,6 +85,7 @@ impl<T> Rows<T> {
     /// Makes room for that many more rows, in whole pages. No row moves. Pages that were taken before a refusal stay.
     pub fn reserve(&mut self, more: usize) -> Result<(), AllocError>
         ensures items { self.new.items ≡ self.old.items }
+        ensures len { row_count self.new ≡ row_count self.old }
         ensures ok { OnOk result (row_count self.new + more ≤ self.new.capacity) }
         ensures capacity { self.old.capacity ≤ self.new.capacity }
         ensures exact { OnOk result (self.new.capacity
@@ -107,6 +109,7 @@ impl<T> Rows<T> {
     pub fn push_reserved(&mut self, row: T)
         requires { row_count self.old < self.old.capacity }
         ensures items { self.new.items ≡ self.old.items ++ row ∷ [] }
+        ensures len { row_count self.new ≡ row_count self.old + 1 }
         ensures capacity { self.new.capacity ≡ self.old.capacity }
     {
         self.pages[self.len / PAGE].push_reserved(row);
@@ -133,7 +136,8 @@ impl<T> Rows<T> {
     /// The row at an index, if there is one.
     #[inline(always)]
     pub fn get(&self, index: usize) -> Option<&T>
-        ensures { option_copied result ≡ slice_get self.now.items index }
+        ensures value { option_copied result ≡ slice_get self.now.items index }
+        ensures item { IsItemAt self.now.items index result }
     {
         if index >= self.len {
             return None;

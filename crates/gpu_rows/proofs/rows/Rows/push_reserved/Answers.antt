@@ -1,4 +1,6 @@
-use Rattle.std.proofs.Common.{◌<◌, ◌*◌, length, arith}
+use Rattle.std.proofs.Common.{◌<◌, ◌*◌, ◌∙◌, length, ap, arith}
+use Rattle.std.proofs.lemmas.List.{length_push}
+use Rattle.gpu_rows.specs.Pages.{rows_of}
 use Rattle.gpu_rows.proofs.Placing.{counts, has_page, has_room, pushes_page, pushes_row}
 use Rattle.gpu_rows.proofs.rows.Rows.push_reserved.Goals as goal
 
@@ -33,3 +35,12 @@ returns-clause-items g c =
     let lt : count < 256 * length pages = omega (arith, c.requires, counts pages count c.args.self.now c.self.invariant c.self.view_is) in
     rw (← c.self.view_is)
     (pushes_row pages count c.index_mut.result.now c.push_reserved.new.self c.args.row c.self.invariant lt c.index_mut.ensures.value c.push_reserved.ensures.items)
+
+pub returns-clause-len : goal.returns-clause-len
+returns-clause-len g c =
+    let pages = c.self.inside.pages.items in
+    let count = c.self.inside.len in
+    let lt : count < 256 * length pages = omega (arith, c.requires, counts pages count c.args.self.now c.self.invariant c.self.view_is) in
+    rw (← c.self.view_is)
+    (ap length (pushes_row pages count c.index_mut.result.now c.push_reserved.new.self c.args.row c.self.invariant lt c.index_mut.ensures.value c.push_reserved.ensures.items)
+    ∙ length_push (rows_of pages) c.args.row)
