@@ -1,5 +1,5 @@
 -- Gaps in order, in a thread and in trees.
-use Rattle.std.proofs.Common.{◌≡◌, ◌≢◌, ℕ, suc, ◌+◌, ◌*◌, ◌/◌, ◌^◌, ◌<◌, List, [], ◌∷◌, ◌++◌, length, get_or, set, map, take, drop, Option, Some, None, ◌⊎◌, inl, inr, refl, sym, ap, subst, ◌∙◌, arith, vec_capacity}
+use Rattle.std.proofs.Common.{◌≡◌, ◌≢◌, ℕ, suc, ◌+◌, ◌*◌, ◌/◌, ◌^◌, ◌<◌, List, [], ◌∷◌, ◌++◌, length, get_or, set, map, take, drop, Option, Some, None, ◌⊎◌, inl, inr, refl, sym, ap, subst, ◌∙◌, arith}
 use Rattle.std.specs.List.{insert, remove}
 use Rattle.std.proofs.lemmas.Option.{same_Some}
 use Rattle.std.proofs.lemmas.List.{map-append, take-map, drop-map, length-map, length-set, get_or-map, get_or-set_same, get_or-set_other}
@@ -50,10 +50,10 @@ module _ (t : Threaded) (f : Forest) (trees : List (Option Tree)) (are : AreInde
   key = key_in t.gaps
 
   pub kept : (c l : ℕ) → HasIn trees c l → class_in f.scale (key_in t.gaps l) ≡ c
-  kept = class_kept (key_in t.gaps) f.scale f.forks.items f.spare.items (vec_capacity f.spare) f.roots.items f.classes trees are.forest
+  kept = class_kept (key_in t.gaps) f.scale f.forks.items f.spare.items f.spare.capacity f.roots.items f.classes trees are.forest
 
   pub sorted_in : (c : ℕ) (u : Tree) → tree_at trees c ≡ Some u → Sorted (key_in t.gaps) u
-  sorted_in = tree_sorted (key_in t.gaps) f.scale f.forks.items f.spare.items (vec_capacity f.spare) f.roots.items f.classes trees are.forest
+  sorted_in = tree_sorted (key_in t.gaps) f.scale f.forks.items f.spare.items f.spare.capacity f.roots.items f.classes trees are.forest
 
   -- the leaf to which a number's bits lead is one of the order
   pub near_in : (n c : ℕ) (u : Tree) → tree_at trees c ≡ Some u → IsIn (near n u) t.order
@@ -68,8 +68,8 @@ module _ (t : Threaded) (f : Forest) (trees : List (Option Tree)) (are : AreInde
 
   pub spare_left : length t.order + 1 < length t.gaps → 0 < length f.spare.items
   spare_left room =
-      spare_slot (key_in t.gaps) f.scale f.forks.items f.spare.items (vec_capacity f.spare) f.roots.items f.classes trees are.forest t.order are.ordered
-      (let a = are.slots in let k = f.forks.ok in omega arith)
+      spare_slot (key_in t.gaps) f.scale f.forks.items f.spare.items f.spare.capacity f.roots.items f.classes trees are.forest t.order are.ordered
+      (let a = are.slots in omega arith)
 
   -- ---- the slot of the first gap from a number on
 
@@ -124,7 +124,7 @@ module _ (t : Threaded) (f : Forest) (trees : List (Option Tree)) (are : AreInde
 
       pub forest_rekeyed : IsForest (key_in (set t.gaps s g)) f trees
       forest_rekeyed =
-          trees_rekeyed (key_in t.gaps) (key_in (set t.gaps s g)) f.scale f.forks.items f.spare.items (vec_capacity f.spare) f.roots.items f.classes trees
+          trees_rekeyed (key_in t.gaps) (key_in (set t.gaps s g)) f.scale f.forks.items f.spare.items f.spare.capacity f.roots.items f.classes trees
           (λ c l has. stays_key l (are.ordered.held c l has)) are.forest
 
       pub nearby_rekeyed : (n : ℕ) (near_by : Nearby) → IsNearby (key_in t.gaps) f.scale trees n near_by → IsNearby (key_in (set t.gaps s g)) f.scale trees n near_by
@@ -135,7 +135,7 @@ module _ (t : Threaded) (f : Forest) (trees : List (Option Tree)) (are : AreInde
             at.0,
             at.1,
             record {
-              sorted = tree_sorted (key_in (set t.gaps s g)) f.scale f.forks.items f.spare.items (vec_capacity f.spare) f.roots.items f.classes trees forest_rekeyed (class_in f.scale n) at.0 at.1;
+              sorted = tree_sorted (key_in (set t.gaps s g)) f.scale f.forks.items f.spare.items f.spare.capacity f.roots.items f.classes trees forest_rekeyed (class_in f.scale n) at.0 at.1;
               above = at.2.above ∙ sym (ap (λ m. m / 2 ^ (bit + 1)) e);
               differs = λ same. at.2.differs (same ∙ ap (λ m. m / 2 ^ bit) e);
             },

@@ -1,5 +1,5 @@
 -- A gap that is alone in its class, and gets a length and start of a class that has no gap.
-use Rattle.std.proofs.Common.{◌≡◌, ◌≢◌, ℕ, zero, suc, ◌+◌, ◌-◌, ◌*◌, ◌^◌, ◌<◌, ◌≤◌, IsTrue, ◌↔◌, nat_lt, nat_eq, List, ◌∷◌, length, get_or, set, map, Option, Some, None, false, true, ◌⊎◌, inl, inr, refl, sym, ap, subst, ◌∙◌, arith, vec_capacity}
+use Rattle.std.proofs.Common.{◌≡◌, ◌≢◌, ℕ, zero, suc, ◌+◌, ◌-◌, ◌*◌, ◌^◌, ◌<◌, ◌≤◌, IsTrue, ◌↔◌, nat_lt, nat_eq, List, ◌∷◌, length, get_or, set, map, Option, Some, None, false, true, ◌⊎◌, inl, inr, refl, sym, ap, subst, ◌∙◌, arith}
 use Rattle.std.specs.List.{AllPairs, insert, remove, slice_get}
 use Rattle.std.proofs.lemmas.Bool.{cases_eq, cases_lt, lt-ltb}
 use Rattle.std.proofs.lemmas.Bool.Decides.{nat_tests}
@@ -186,7 +186,7 @@ module _ (t : Threaded) (f : Forest) (trees : List (Option Tree)) (are : AreInde
 
   from_inside : class_in f.scale (size * 2 ^ 64 + start) < length trees
   from_inside =
-      let there = root_there (key_in t.gaps) f.scale f.forks.items f.spare.items (vec_capacity f.spare) f.roots.items f.classes trees are.forest (class_in f.scale (size * 2 ^ 64 + start)) (tip s) alone in
+      let there = root_there (key_in t.gaps) f.scale f.forks.items f.spare.items f.spare.capacity f.roots.items f.classes trees are.forest (class_in f.scale (size * 2 ^ 64 + start)) (tip s) alone in
       let a = root_within f.roots.items (class_in f.scale (size * 2 ^ 64 + start)) there.0 there.1 in
       let b = are.forest.rooted in
       omega arith

@@ -1,5 +1,5 @@
 -- A gap that is alone in its class, and gets another length and start of that class.
-use Rattle.std.proofs.Common.{◌≡◌, ◌≢◌, ℕ, zero, suc, ◌+◌, ◌*◌, ◌^◌, ◌<◌, List, [], ◌∷◌, length, get_or, set, map, Option, Some, ◌⊎◌, inl, inr, refl, sym, ap, subst, ◌∙◌, arith, vec_capacity}
+use Rattle.std.proofs.Common.{◌≡◌, ◌≢◌, ℕ, zero, suc, ◌+◌, ◌*◌, ◌^◌, ◌<◌, List, [], ◌∷◌, length, get_or, set, map, Option, Some, ◌⊎◌, inl, inr, refl, sym, ap, subst, ◌∙◌, arith}
 use Rattle.std.specs.List.{insert, remove, slice_get}
 use Rattle.std.proofs.lemmas.Bool.{cases_eq}
 use Rattle.std.proofs.lemmas.Option.{same_Some}
@@ -60,7 +60,7 @@ module _ (t : Threaded) (f : Forest) (trees : List (Option Tree)) (are : AreInde
     where
       lead_here : Roots (key_in (set t.gaps s g)) (slice_get f.forks.items) f.scale (class_in f.scale (key_in t.gaps s)) (root_at f.roots.items (class_in f.scale (key_in t.gaps s))) (tree_at trees (class_in f.scale (key_in t.gaps s)))
       lead_here =
-          let there = root_there (key_in t.gaps) f.scale f.forks.items f.spare.items (vec_capacity f.spare) f.roots.items f.classes trees are.forest (class_in f.scale (key_in t.gaps s)) (tip s) alone in
+          let there = root_there (key_in t.gaps) f.scale f.forks.items f.spare.items f.spare.capacity f.roots.items f.classes trees are.forest (class_in f.scale (key_in t.gaps s)) (tip s) alone in
           let same : there.2.tree ≡ tip s = same_Some _ _ (sym there.2.is ∙ alone) in
           let laid : Lays (slice_get f.forks.items) 128 there.0 (tip s) = subst (λ (u : Tree). Lays (slice_get f.forks.items) 128 there.0 u) same there.2.laid in
           let planted : Roots (key_in (set t.gaps s g)) (slice_get f.forks.items) f.scale (class_in f.scale (key_in t.gaps s)) (Some there.0) (Some (tip s)) = (laid, tt, λ leaf e. class_stays leaf ∙ ap (λ m. class_in f.scale (key_in t.gaps m)) e) in

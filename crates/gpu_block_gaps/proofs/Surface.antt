@@ -1,5 +1,5 @@
 -- What is seen of an index.
-use Rattle.std.proofs.Common.{◌≡◌, ◌≢◌, ℕ, zero, suc, ◌+◌, ◌*◌, ◌^◌, ◌<◌, ◌≤◌, ◌==◌, min, List, [], ◌∷◌, length, get_or, Option, Some, None, true, false, ◌⊎◌, inl, inr, refl, sym, ap, subst, ◌∙◌, arith, vec_len, vec_capacity}
+use Rattle.std.proofs.Common.{◌≡◌, ◌≢◌, ℕ, zero, suc, ◌+◌, ◌*◌, ◌^◌, ◌<◌, ◌≤◌, ◌==◌, min, List, [], ◌∷◌, length, get_or, Option, Some, None, true, false, ◌⊎◌, inl, inr, refl, sym, ap, subst, ◌∙◌, arith}
 use Rattle.std.specs.List.{AllPairs, slice_get}
 use Rattle.std.proofs.lemmas.Bool.{cases_lt}
 use Rattle.std.proofs.lemmas.Bool.Decides.{nat_tests}
@@ -67,7 +67,7 @@ module _ (t : Threaded) (f : Forest) (trees : List (Option Tree)) (are : AreInde
       (are.ordered.sorted i j 0 lt in_j)))
 
   -- more room for forks
-  pub forest_reserved : (f' : Forest) (same : List (Option Tree)) → IsForest (key_in t.gaps) f' same → KeepsTrees trees same → (IsWide f → IsWide f') → vec_len f.forks ≤ vec_len f'.forks → f'.scale ≡ f.scale
+  pub forest_reserved : (f' : Forest) (same : List (Option Tree)) → IsForest (key_in t.gaps) f' same → KeepsTrees trees same → (IsWide f → IsWide f') → length f.forks.items ≤ length f'.forks.items → f'.scale ≡ f.scale
       → AreIndexed t f' same
   forest_reserved f' same forest keeps wide more scaled = record {
     forest = forest;
@@ -78,10 +78,10 @@ module _ (t : Threaded) (f : Forest) (trees : List (Option Tree)) (are : AreInde
   }
 
   -- more room for gaps
-  pub thread_reserved : (t' : Threaded) → t'.order ≡ t.order → ((k : ℕ) → gap_in t'.gaps k ≡ gap_in t.gaps k) → length t'.gaps ≤ vec_len f.forks + 1 → IsWide f → AreIndexed t' f trees
+  pub thread_reserved : (t' : Threaded) → t'.order ≡ t.order → ((k : ℕ) → gap_in t'.gaps k ≡ gap_in t.gaps k) → length t'.gaps ≤ length f.forks.items + 1 → IsWide f → AreIndexed t' f trees
   thread_reserved t' order gaps few wide =
       subst (λ (xs : List ℕ). AreIndexed (record { order = xs; gaps = t'.gaps; vacant = t'.vacant }) f trees) (sym order) (record {
-        forest = trees_rekeyed (key_in t.gaps) (key_in t'.gaps) f.scale f.forks.items f.spare.items (vec_capacity f.spare) f.roots.items f.classes trees (λ c l has. ap code (gaps l)) are.forest;
+        forest = trees_rekeyed (key_in t.gaps) (key_in t'.gaps) f.scale f.forks.items f.spare.items f.spare.capacity f.roots.items f.classes trees (λ c l has. ap code (gaps l)) are.forest;
         ordered = order_kept (key_in t.gaps) (key_in t'.gaps) f.scale trees trees t.order ((λ c. refl), refl) (λ l is. ap code (gaps l)) are.ordered;
         slots = few;
         wide = λ some. wide;

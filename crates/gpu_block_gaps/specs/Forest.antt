@@ -1,6 +1,7 @@
 -- A tree for each class, all in one row of slots.
-use Rattle.std.specs.Prelude.{◌≡◌, ◌≢◌, ℕ, ◌+◌, ◌*◌, ◌^◌, ◌/◌, ◌<◌, ◌≤◌, ◌⊎◌, List, length, slice_index_or, Option, Some, None, is_some, All, vec_len, vec_capacity}
+use Rattle.std.specs.Prelude.{◌≡◌, ◌≢◌, ℕ, ◌+◌, ◌*◌, ◌^◌, ◌/◌, ◌<◌, ◌≤◌, ◌⊎◌, List, length, slice_index_or, Option, Some, None, is_some, All}
 use Rattle.std.specs.List.{AllPairs, slice_get, sum_by}
+use Rattle.gpu_rows.specs.Rows.{row_count}
 use Rattle.gpu_block_gaps.specs.declared.class.Scale.{Scale}
 use Rattle.gpu_block_gaps.specs.declared.tree.Node.{Node}
 use Rattle.gpu_block_gaps.specs.declared.tree.Fork.{Fork}
@@ -61,7 +62,7 @@ pub record AreTrees (key : ℕ → ℕ) (scale : Scale) (forks : List Fork) (spa
 
 -- the forest has those trees, one or none for each class
 abbrev pub IsForest : (ℕ → ℕ) → Forest → List (Option Tree) → Type 0
-IsForest key f trees = AreTrees key f.scale f.forks.items f.spare.items (vec_capacity f.spare) f.roots.items f.classes trees
+IsForest key f trees = AreTrees key f.scale f.forks.items f.spare.items f.spare.capacity f.roots.items f.classes trees
 
 -- each class has a place for a root
 abbrev pub IsWide : Forest → Type 0
@@ -69,7 +70,7 @@ IsWide f = f.scale.last < length f.roots.items
 
 -- as many slots and classes as before
 abbrev pub KeepsRoom : Forest → Forest → Type 0
-KeepsRoom old new = (new.scale ≡ old.scale) × (vec_len new.forks ≡ vec_len old.forks) × (length new.roots.items ≡ length old.roots.items)
+KeepsRoom old new = (new.scale ≡ old.scale) × (row_count new.forks ≡ row_count old.forks) × (length new.roots.items ≡ length old.roots.items)
 
 -- that class has a tree
 abbrev pub HasTreeIn : Forest → ℕ → Type 0

@@ -1,5 +1,6 @@
 -- The gaps in order: a thread of their slots, and trees that find a slot by its gap's length and start.
-use Rattle.std.specs.Prelude.{◌≡◌, ℕ, ◌+◌, ◌*◌, ◌^◌, ◌<◌, ◌≤◌, List, length, map, slice_index, Option, Some, None, vec_len}
+use Rattle.std.specs.Prelude.{◌≡◌, ℕ, ◌+◌, ◌*◌, ◌^◌, ◌<◌, ◌≤◌, List, length, map, slice_index, Option, Some, None}
+use Rattle.gpu_rows.specs.Rows.{row_count}
 use Rattle.gpu_block_gaps.specs.declared.class.Scale.{Scale}
 use Rattle.gpu_block_gaps.specs.Tree.{Tree, IsSplit, near}
 use Rattle.gpu_block_gaps.specs.Forest.{IsForest, IsWide, class_in, tree_at}
@@ -30,7 +31,7 @@ IsShort g = (g.length < 2 ^ 64) × (g.start < 2 ^ 64)
 pub record AreIndexed (t : Threaded) (f : Forest) (trees : List (Option Tree)) : Type 0 where
   pub forest : IsForest (key_in t.gaps) f trees
   pub ordered : AreInOrder (key_in t.gaps) f.scale trees t.order
-  pub slots : length t.gaps ≤ vec_len f.forks + 1
+  pub slots : length t.gaps ≤ row_count f.forks + 1
   pub wide : 0 < length t.gaps → IsWide f
   pub short : (slot : ℕ) → IsIn slot t.order → IsShort (gap_in t.gaps slot)
 

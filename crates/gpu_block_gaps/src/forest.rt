@@ -1,6 +1,7 @@
 //! A tree for each class of lengths, all in one row of slots.
 
-ghost use Rattle.std.specs.Prelude.{◌≡◌, ◌≢◌, ℕ, ◌+◌, ◌^◌, ◌<◌, ◌≤◌, ◌⊎◌, List, [], Option, Some, None, MatchOption, IfSome, OnOk, vec_len, vec_capacity, slice_set, IsTrue, ◌↔◌};
+ghost use Rattle.std.specs.Prelude.{◌≡◌, ◌≢◌, ℕ, ◌+◌, ◌^◌, ◌<◌, ◌≤◌, ◌⊎◌, List, [], Option, Some, None, MatchOption, IfSome, OnOk, vec_len, slice_set, IsTrue, ◌↔◌};
+ghost use Rattle.gpu_rows.specs.Rows.{row_count};
 ghost use Rattle.gpu_block_gaps.specs.Key.{code_of};
 ghost use Rattle.gpu_block_gaps.specs.Class.{IsFew};
 ghost use Rattle.gpu_block_gaps.specs.Packed.{IsSmall};
@@ -13,14 +14,15 @@ use crate::key::Key;
 use crate::packed::Packed;
 use crate::root::Root;
 use crate::tree::{Fork, Node, Place, first, insert, nearest, place_of, remove};
+use gpu_rows::Rows;
 use std::alloc::{AllocError, Global};
 
 /// The trees of all classes that have a gap.
 #[derive(Drop)]
 pub struct Forest {
-    pub(crate) forks: Vec<Fork>,
+    pub(crate) forks: Rows<Fork>,
     // The slots that no tree has.
-    pub(crate) spare: Vec<u32>,
+    pub(crate) spare: Rows<u32>,
     pub(crate) roots: Vec<Root>,
     pub(crate) classes: ClassSet,
     pub(crate) scale: Scale,
@@ -31,12 +33,12 @@ impl Forest {
     pub fn new(alloc: Global, scale: Scale) -> Forest
         requires { IsFew scale }
         ensures trees { (at : ℕ → ℕ) → IsForest at result [] }
-        ensures room { vec_len result.forks ≡ 0 }
+        ensures room { row_count result.forks ≡ 0 }
         ensures scale { result.scale ≡ scale }
     {
         Forest {
-            forks: Vec::new(alloc),
-            spare: Vec::new(alloc),
+            forks: Rows::new(alloc),
+            spare: Rows::new(alloc),
             roots: Vec::new(alloc),
             classes: ClassSet::new(alloc),
             scale,
@@ -66,16 +68,16 @@ impl Forest {
 
     /// Adds a slot for a fork. There is room for it.
     fn add_slot(&mut self)
-        requires few { vec_len self.old.forks < 2 ^ 31 }
-        requires forks { vec_len self.old.forks < vec_capacity self.old.forks }
-        requires spare { vec_len self.old.spare < vec_capacity self.old.spare }
+        requires few { row_count self.old.forks < 2 ^ 31 }
+        requires forks { row_count self.old.forks < self.old.forks.capacity }
+        requires spare { row_count self.old.spare < self.old.spare.capacity }
         ensures trees { (at : ℕ → ℕ) (trees : List (Option Tree))
-            → vec_len self.old.forks < vec_capacity self.old.spare → IsForest at self.old trees
+            → row_count self.old.forks < self.old.spare.capacity → IsForest at self.old trees
             → IsForest at self.new trees }
-        ensures slots { (vec_len self.new.forks ≡ vec_len self.old.forks + 1)
-            × (vec_len self.new.spare ≡ vec_len self.old.spare + 1) }
-        ensures room { (vec_capacity self.new.forks ≡ vec_capacity self.old.forks)
-            × (vec_capacity self.new.spare ≡ vec_capacity self.old.spare) }
+        ensures slots { (row_count self.new.forks ≡ row_count self.old.forks + 1)
+            × (row_count self.new.spare ≡ row_count self.old.spare + 1) }
+        ensures room { (self.new.forks.capacity ≡ self.old.forks.capacity)
+            × (self.new.spare.capacity ≡ self.old.spare.capacity) }
         ensures others { (self.new.roots ≡ self.old.roots) × (self.new.scale ≡ self.old.scale) }
     {
         self.spare.push_reserved(self.forks.len() as u32);
@@ -92,16 +94,14 @@ impl Forest {
         requires few { count < 2 ^ 31 }
         ensures trees { (at : ℕ → ℕ) (trees : List (Option Tree)) → IsForest at self.old trees
             → (same : List (Option Tree)) × IsForest at self.new same × KeepsTrees trees same }
-        ensures room { OnOk result (IsWide self.new × (count ≤ vec_len self.new.forks)) }
+        ensures room { OnOk result (IsWide self.new × (count ≤ row_count self.new.forks)) }
         ensures kept { (IsWide self.old → IsWide self.new)
-            × (vec_len self.old.forks ≤ vec_len self.new.forks) }
+            × (row_count self.old.forks ≤ row_count self.new.forks) }
         ensures scale { self.new.scale ≡ self.old.scale }
     {
         self.widen()?;
-        self.forks
-            .reserve_exact(count.saturating_sub(self.forks.len()))?;
-        self.spare
-            .reserve_exact(count.saturating_sub(self.spare.len()))?;
+        self.forks.reserve(count.saturating_sub(self.forks.len()))?;
+        self.spare.reserve(count.saturating_sub(self.spare.len()))?;
         while self.forks.len() < count {
             self.add_slot();
         }
@@ -242,7 +242,7 @@ impl Forest {
         requires there { HasTree self.old (code_of key) }
         requires class { class ≡ class_in self.old.scale (code_of key) }
         requires bit { bit < 128 }
-        requires spare { 0 < vec_len self.old.spare }
+        requires spare { 0 < row_count self.old.spare }
         requires leaf { leaf + 1 < 2 ^ 31 }
         ensures trees { (at : ℕ → ℕ) (trees : List (Option Tree)) (t : Tree)
             → IsForest at self.old trees → at leaf ≡ code_of key

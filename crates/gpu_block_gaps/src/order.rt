@@ -1,7 +1,8 @@
 //! The gaps in the order of length and start: their thread, and the trees that find a gap's slot.
 
-ghost use Rattle.std.specs.Prelude.{◌≡◌, ◌≢◌, ℕ, ◌+◌, ◌^◌, ◌<◌, ◌≤◌, List, length, slice_index, Option, Some, vec_len, slice_set, IsTrue, ◌↔◌};
+ghost use Rattle.std.specs.Prelude.{◌≡◌, ◌≢◌, ℕ, ◌+◌, ◌^◌, ◌<◌, ◌≤◌, List, length, slice_index, Option, Some, slice_set, IsTrue, ◌↔◌};
 ghost use Rattle.std.specs.List.{AllPairs};
+ghost use Rattle.gpu_rows.specs.Rows.{row_count};
 ghost use Rattle.gpu_block_gaps.specs.Thread.{gap_in};
 ghost use Rattle.gpu_block_gaps.specs.Key.{code_of};
 ghost use Rattle.gpu_block_gaps.specs.Tree.{Tree};
@@ -122,7 +123,7 @@ fn plant(
     requires class { class ≡ class_in forest.old.scale (code_of key) }
     requires new { (other : ℕ) → nearby ≢ Nearby.Same other }
     requires wide { IsWide forest.old }
-    requires spare { 0 < vec_len forest.old.spare }
+    requires spare { 0 < row_count forest.old.spare }
     requires slot { slot + 1 < 2 ^ 31 }
     ensures trees { (at : ℕ → ℕ) (trees : List (Option Tree)) → IsForest at forest.old trees
         → at slot ≡ code_of key → IsNearby at forest.old.scale trees (code_of key) nearby

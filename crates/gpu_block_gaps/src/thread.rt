@@ -1,13 +1,15 @@
 //! Gaps in slots, each linked to the slots of the ones beside it, in an order that the caller keeps.
 
-ghost use Rattle.std.specs.Prelude.{◌≡◌, ◌≢◌, ℕ, ◌+◌, ◌-◌, ◌^◌, ◌<◌, ◌≤◌, ◌∷◌, List, [], length, map, max, slice_index, slice_set, All, OnOk, OnErr, vec_len, vec_capacity};
+ghost use Rattle.std.specs.Prelude.{◌≡◌, ◌≢◌, ℕ, ◌+◌, ◌-◌, ◌^◌, ◌<◌, ◌≤◌, ◌∷◌, List, [], length, map, max, slice_index, slice_set, All, OnOk, OnErr};
 ghost use Rattle.std.specs.List.{AllPairs, insert, remove};
+ghost use Rattle.gpu_rows.specs.Rows.{row_count};
 ghost use Rattle.gpu_block_gaps.specs.Order.{IsIn};
 ghost use Rattle.gpu_block_gaps.specs.Thread.{gap_in};
 ghost use Rattle.gpu_block_gaps.specs.Records.{next_in, prev_in, gap_of, order_of, LeadsTo, LeadsThrough, IsThread};
 
 use crate::index::Gap;
 use crate::packed_record::PackedRecord;
+use gpu_rows::Rows;
 use gpu_values::AllocationType;
 use std::alloc::{AllocError, Global};
 use std::marker::Model;
@@ -23,13 +25,13 @@ pub struct Record {
 /// Gaps in slots, threaded in an order. A gap keeps its slot until it is taken out.
 #[derive(Drop)]
 pub struct Thread {
-    records: Vec<PackedRecord>,
+    records: Rows<PackedRecord>,
     // The slots of no gap, but for slot 0.
-    spare: Vec<u32>,
+    spare: Rows<u32>,
 }
 
 impl Model for Thread {
-    ghost use Rattle.std.specs.Prelude.{map, vec_capacity};
+    ghost use Rattle.std.specs.Prelude.{map};
     ghost use Rattle.gpu_block_gaps.specs.Thread.{Threaded};
     ghost use Rattle.gpu_block_gaps.specs.Records.{gap_of, last_of, order_of, IsThread};
 
@@ -41,52 +43,56 @@ impl Model for Thread {
       vacant = last_of s.spare.items;
     } };
 
-    ghost invariant = { λ s. IsThread s.records.items s.spare.items (vec_capacity s.spare) };
+    ghost invariant = { λ s. IsThread s.records.items s.spare.items s.spare.capacity };
 }
 
 /// Links a slot to the one behind it.
-fn set_next(records: &mut [PackedRecord], slot: u32, next: u32)
-    requires slot { slot < length records.old }
+fn set_next(records: &mut Rows<PackedRecord>, slot: u32, next: u32)
+    requires slot { slot < row_count records.old }
     requires next { next < 2 ^ 30 }
-    ensures next { LeadsTo (next_in records.old) (next_in records.new) slot next }
-    ensures prev { (k : ℕ) → prev_in records.new k ≡ prev_in records.old k }
-    ensures gaps { map gap_of records.new ≡ map gap_of records.old }
+    ensures next { LeadsTo (next_in records.old.items) (next_in records.new.items) slot next }
+    ensures prev { (k : ℕ) → prev_in records.new.items k ≡ prev_in records.old.items k }
+    ensures gaps { map gap_of records.new.items ≡ map gap_of records.old.items }
+    ensures count { row_count records.new ≡ row_count records.old }
 {
     records[slot as usize].set_next(next);
 }
 
 /// Links a slot to the one before it.
-fn set_prev(records: &mut [PackedRecord], slot: u32, prev: u32)
-    requires slot { slot < length records.old }
+fn set_prev(records: &mut Rows<PackedRecord>, slot: u32, prev: u32)
+    requires slot { slot < row_count records.old }
     requires prev { prev < 2 ^ 30 }
-    ensures prev { LeadsTo (prev_in records.old) (prev_in records.new) slot prev }
-    ensures next { (k : ℕ) → next_in records.new k ≡ next_in records.old k }
-    ensures gaps { map gap_of records.new ≡ map gap_of records.old }
+    ensures prev { LeadsTo (prev_in records.old.items) (prev_in records.new.items) slot prev }
+    ensures next { (k : ℕ) → next_in records.new.items k ≡ next_in records.old.items k }
+    ensures gaps { map gap_of records.new.items ≡ map gap_of records.old.items }
+    ensures count { row_count records.new ≡ row_count records.old }
 {
     records[slot as usize].set_prev(prev);
 }
 
 /// Puts another gap into a slot.
-fn set_gap(records: &mut [PackedRecord], slot: u32, gap: Gap)
-    requires { slot < length records.old }
-    ensures next { (k : ℕ) → next_in records.new k ≡ next_in records.old k }
-    ensures prev { (k : ℕ) → prev_in records.new k ≡ prev_in records.old k }
-    ensures gaps { map gap_of records.new ≡ slice_set (map gap_of records.old) slot gap }
+fn set_gap(records: &mut Rows<PackedRecord>, slot: u32, gap: Gap)
+    requires { slot < row_count records.old }
+    ensures next { (k : ℕ) → next_in records.new.items k ≡ next_in records.old.items k }
+    ensures prev { (k : ℕ) → prev_in records.new.items k ≡ prev_in records.old.items k }
+    ensures gaps { map gap_of records.new.items ≡ slice_set (map gap_of records.old.items) slot gap }
+    ensures count { row_count records.new ≡ row_count records.old }
 {
     records[slot as usize].set_gap(gap);
 }
 
 /// Puts a record into a slot, and links the slots beside it to that.
-fn link(records: &mut [PackedRecord], slot: u32, entry: Record)
-    requires few { length records.old < 2 ^ 30 }
-    requires slot { slot < length records.old }
-    requires prev { (entry.prev < length records.old) × (entry.prev ≢ slot) }
-    requires next { (entry.next < length records.old) × (entry.next ≢ slot) }
-    ensures next { LeadsThrough (next_in records.old) (next_in records.new) entry.prev slot
+fn link(records: &mut Rows<PackedRecord>, slot: u32, entry: Record)
+    requires few { row_count records.old < 2 ^ 30 }
+    requires slot { slot < row_count records.old }
+    requires prev { (entry.prev < row_count records.old) × (entry.prev ≢ slot) }
+    requires next { (entry.next < row_count records.old) × (entry.next ≢ slot) }
+    ensures next { LeadsThrough (next_in records.old.items) (next_in records.new.items) entry.prev slot
         entry.next }
-    ensures prev { LeadsThrough (prev_in records.old) (prev_in records.new) entry.next slot
+    ensures prev { LeadsThrough (prev_in records.old.items) (prev_in records.new.items) entry.next slot
         entry.prev }
-    ensures gaps { map gap_of records.new ≡ slice_set (map gap_of records.old) slot entry.gap }
+    ensures gaps { map gap_of records.new.items ≡ slice_set (map gap_of records.old.items) slot entry.gap }
+    ensures count { row_count records.new ≡ row_count records.old }
 {
     records[slot as usize] = PackedRecord::new(entry);
     set_next(records, entry.prev, slot);
@@ -94,15 +100,16 @@ fn link(records: &mut [PackedRecord], slot: u32, entry: Record)
 }
 
 /// Links the slots beside a slot to each other.
-fn unlink(records: &mut [PackedRecord], slot: u32)
-    requires slot { slot < length records.old }
-    requires prev { prev_in records.old slot < length records.old }
-    requires next { next_in records.old slot < length records.old }
-    ensures next { LeadsTo (next_in records.old) (next_in records.new) (prev_in records.old slot)
-        (next_in records.old slot) }
-    ensures prev { LeadsTo (prev_in records.old) (prev_in records.new) (next_in records.old slot)
-        (prev_in records.old slot) }
-    ensures gaps { map gap_of records.new ≡ map gap_of records.old }
+fn unlink(records: &mut Rows<PackedRecord>, slot: u32)
+    requires slot { slot < row_count records.old }
+    requires prev { prev_in records.old.items slot < row_count records.old }
+    requires next { next_in records.old.items slot < row_count records.old }
+    ensures next { LeadsTo (next_in records.old.items) (next_in records.new.items) (prev_in records.old.items slot)
+        (next_in records.old.items slot) }
+    ensures prev { LeadsTo (prev_in records.old.items) (prev_in records.new.items) (next_in records.old.items slot)
+        (prev_in records.old.items slot) }
+    ensures gaps { map gap_of records.new.items ≡ map gap_of records.old.items }
+    ensures count { row_count records.new ≡ row_count records.old }
 {
     let record = records[slot as usize];
     let (prev, next) = (record.prev(), record.next());
@@ -111,18 +118,18 @@ fn unlink(records: &mut [PackedRecord], slot: u32)
 }
 
 /// Adds a slot. There is room for it.
-fn add_slot(records: &mut Vec<PackedRecord>, spare: &mut Vec<u32>)
-    requires thread { IsThread records.old.items spare.old.items (vec_capacity spare.old) }
-    requires few { vec_len records.old + 1 < 2 ^ 30 }
-    requires records { vec_len records.old < vec_capacity records.old }
-    requires spare { vec_len records.old < vec_capacity spare.old }
-    ensures thread { IsThread records.new.items spare.new.items (vec_capacity spare.new) }
+fn add_slot(records: &mut Rows<PackedRecord>, spare: &mut Rows<u32>)
+    requires thread { IsThread records.old.items spare.old.items spare.old.capacity }
+    requires few { row_count records.old + 1 < 2 ^ 30 }
+    requires records { row_count records.old < records.old.capacity }
+    requires spare { row_count records.old < spare.old.capacity }
+    ensures thread { IsThread records.new.items spare.new.items spare.new.capacity }
     ensures order { order_of records.new.items ≡ order_of records.old.items }
     ensures gaps { (k : ℕ) → gap_in (map gap_of records.new.items) k
         ≡ gap_in (map gap_of records.old.items) k }
-    ensures long { vec_len records.new ≡ vec_len records.old + 1 }
-    ensures room { (vec_capacity records.new ≡ vec_capacity records.old)
-        × (vec_capacity spare.new ≡ vec_capacity spare.old) }
+    ensures long { row_count records.new ≡ row_count records.old + 1 }
+    ensures room { (records.new.capacity ≡ records.old.capacity)
+        × (spare.new.capacity ≡ spare.old.capacity) }
 {
     if !records.is_empty() {
         spare.push_reserved(records.len() as u32);
@@ -142,16 +149,16 @@ fn add_slot(records: &mut Vec<PackedRecord>, spare: &mut Vec<u32>)
 }
 
 /// Adds slots up to that count. There is room for them.
-fn fill(records: &mut Vec<PackedRecord>, spare: &mut Vec<u32>, count: usize)
-    requires thread { IsThread records.old.items spare.old.items (vec_capacity spare.old) }
+fn fill(records: &mut Rows<PackedRecord>, spare: &mut Rows<u32>, count: usize)
+    requires thread { IsThread records.old.items spare.old.items spare.old.capacity }
     requires few { count < 2 ^ 30 }
-    requires records { count ≤ vec_capacity records.old }
-    requires spare { count ≤ vec_capacity spare.old }
-    ensures thread { IsThread records.new.items spare.new.items (vec_capacity spare.new) }
+    requires records { count ≤ records.old.capacity }
+    requires spare { count ≤ spare.old.capacity }
+    ensures thread { IsThread records.new.items spare.new.items spare.new.capacity }
     ensures order { order_of records.new.items ≡ order_of records.old.items }
     ensures gaps { (k : ℕ) → gap_in (map gap_of records.new.items) k
         ≡ gap_in (map gap_of records.old.items) k }
-    ensures long { vec_len records.new ≡ max (vec_len records.old) count }
+    ensures long { row_count records.new ≡ max (row_count records.old) count }
 {
     while records.len() < count {
         add_slot(records, spare);
@@ -164,8 +171,8 @@ impl Thread {
         ensures { (result.order ≡ []) × (result.gaps ≡ []) }
     {
         Thread {
-            records: Vec::new(alloc),
-            spare: Vec::new(alloc),
+            records: Rows::new(alloc),
+            spare: Rows::new(alloc),
         }
     }
 
@@ -240,9 +247,8 @@ impl Thread {
     {
         let slots = count + 1;
         self.records
-            .reserve_exact(slots.saturating_sub(self.records.len()))?;
-        self.spare
-            .reserve_exact(slots.saturating_sub(self.spare.len()))?;
+            .reserve(slots.saturating_sub(self.records.len()))?;
+        self.spare.reserve(slots.saturating_sub(self.spare.len()))?;
         fill(&mut self.records, &mut self.spare, slots);
         Ok(())
     }

@@ -1,13 +1,15 @@
 //! A tree over the bits of keys, whose forks lie in slots.
 
-ghost use Rattle.std.specs.Prelude.{◌≡◌, ◌≢◌, ℕ, ◌<◌, ◌+◌, ◌^◌, length, Some, if◌then◌else◌};
+ghost use Rattle.std.specs.Prelude.{◌≡◌, ◌≢◌, ℕ, ◌<◌, ◌+◌, ◌^◌, Some, if◌then◌else◌};
 ghost use Rattle.std.specs.List.{slice_get};
+ghost use Rattle.gpu_rows.specs.Rows.{row_count};
 ghost use Rattle.gpu_block_gaps.specs.Key.{code_of, bit_of};
 ghost use Rattle.gpu_block_gaps.specs.Packed.{IsSmall};
 ghost use Rattle.gpu_block_gaps.specs.Tree.{Tree, Lays, Sorted, leaves_of, first_leaf, last_leaf, near, grown, CanGrow, HasGrown, HasPruned, IsSplit, IsPlace};
 
 use crate::key::Key;
 use crate::packed::Packed;
+use gpu_rows::Rows;
 
 /// Where a branch leads: to a leaf, which names a record, or to the fork in a slot.
 #[derive(Clone, Copy)]
@@ -111,26 +113,28 @@ impl Fork {
 }
 
 /// The fork in a slot.
-fn fork_in(forks: &[Fork], slot: u32) -> Fork
-    requires { slot < length forks.now }
-    ensures { slice_get forks.now slot ≡ Some result }
+fn fork_in(forks: &Rows<Fork>, slot: u32) -> Fork
+    requires { slot < row_count forks.now }
+    ensures { slice_get forks.now.items slot ≡ Some result }
 {
     forks[slot as usize]
 }
 
 /// Writes a fork into a slot.
-fn put(forks: &mut [Fork], slot: u32, fork: Fork)
-    requires { slot < length forks.old }
-    ensures changed { slice_get forks.new slot ≡ Some fork }
-    ensures others { (k : ℕ) → k ≢ slot → slice_get forks.new k ≡ slice_get forks.old k }
+fn put(forks: &mut Rows<Fork>, slot: u32, fork: Fork)
+    requires { slot < row_count forks.old }
+    ensures changed { slice_get forks.new.items slot ≡ Some fork }
+    ensures others { (k : ℕ) → k ≢ slot
+        → slice_get forks.new.items k ≡ slice_get forks.old.items k }
+    ensures count { row_count forks.new ≡ row_count forks.old }
 {
     forks[slot as usize] = fork;
 }
 
 /// The leaf of the least key.
-pub fn first(forks: &[Fork], node: Node) -> u32
-    requires { (t : Tree) × Lays (slice_get forks.now) 128 node t }
-    ensures { (t : Tree) → Lays (slice_get forks.now) 128 node t → result ≡ first_leaf t }
+pub fn first(forks: &Rows<Fork>, node: Node) -> u32
+    requires { (t : Tree) × Lays (slice_get forks.now.items) 128 node t }
+    ensures { (t : Tree) → Lays (slice_get forks.now.items) 128 node t → result ≡ first_leaf t }
 {
     match node {
         Node::Leaf(leaf) => leaf,
@@ -139,9 +143,9 @@ pub fn first(forks: &[Fork], node: Node) -> u32
 }
 
 /// The leaf of the greatest key.
-pub fn last(forks: &[Fork], node: Node) -> u32
-    requires { (t : Tree) × Lays (slice_get forks.now) 128 node t }
-    ensures { (t : Tree) → Lays (slice_get forks.now) 128 node t → result ≡ last_leaf t }
+pub fn last(forks: &Rows<Fork>, node: Node) -> u32
+    requires { (t : Tree) × Lays (slice_get forks.now.items) 128 node t }
+    ensures { (t : Tree) → Lays (slice_get forks.now.items) 128 node t → result ≡ last_leaf t }
 {
     match node {
         Node::Leaf(leaf) => leaf,
@@ -150,9 +154,9 @@ pub fn last(forks: &[Fork], node: Node) -> u32
 }
 
 /// The leaf to which the bits of a key lead.
-pub fn nearest(forks: &[Fork], node: Node, key: Key) -> u32
-    requires { (t : Tree) × Lays (slice_get forks.now) 128 node t }
-    ensures { (t : Tree) → Lays (slice_get forks.now) 128 node t → result ≡ near (code_of key) t }
+pub fn nearest(forks: &Rows<Fork>, node: Node, key: Key) -> u32
+    requires { (t : Tree) × Lays (slice_get forks.now.items) 128 node t }
+    ensures { (t : Tree) → Lays (slice_get forks.now.items) 128 node t → result ≡ near (code_of key) t }
 {
     match node {
         Node::Leaf(leaf) => leaf,
@@ -165,9 +169,9 @@ pub fn nearest(forks: &[Fork], node: Node, key: Key) -> u32
 
 /// The place of a key beside all leaves of a node: before the first one, or behind the last one if the key has the bit that they haven't.
 #[inline(always)]
-fn place_beside(forks: &[Fork], node: Node, set: bool) -> Place
-    requires { (t : Tree) × Lays (slice_get forks.now) 128 node t }
-    ensures { (t : Tree) → Lays (slice_get forks.now) 128 node t
+fn place_beside(forks: &Rows<Fork>, node: Node, set: bool) -> Place
+    requires { (t : Tree) × Lays (slice_get forks.now.items) 128 node t }
+    ensures { (t : Tree) → Lays (slice_get forks.now.items) 128 node t
         → result ≡ (if set then Place.After (last_leaf t) else Place.Before (first_leaf t)) }
 {
     if set {
@@ -178,10 +182,10 @@ fn place_beside(forks: &[Fork], node: Node, set: bool) -> Place
 }
 
 /// The place of a key that differs in that bit from the key to which its bits lead, and in none above it.
-pub fn place_of(forks: &[Fork], node: Node, key: Key, bit: u32) -> Place
-    requires laid { (t : Tree) × Lays (slice_get forks.now) 128 node t }
+pub fn place_of(forks: &Rows<Fork>, node: Node, key: Key, bit: u32) -> Place
+    requires laid { (t : Tree) × Lays (slice_get forks.now.items) 128 node t }
     requires bit { bit < 128 }
-    ensures { (at : ℕ → ℕ) (t : Tree) → Lays (slice_get forks.now) 128 node t
+    ensures { (at : ℕ → ℕ) (t : Tree) → Lays (slice_get forks.now.items) 128 node t
         → IsSplit at t (code_of key) bit → IsPlace at (code_of key) (leaves_of t) result }
 {
     if let Node::Branch(at) = node {
@@ -195,19 +199,27 @@ pub fn place_of(forks: &[Fork], node: Node, key: Key, bit: u32) -> Place
 
 /// Puts a leaf into the tree at a fork above that bit, by a fork in a slot: it goes beside the part from which its key differs in that bit,
 /// and in none above it. Returns the leaf beside which it is then.
-fn insert_below(forks: &mut [Fork], above: u32, key: Key, bit: u32, leaf: u32, slot: u32) -> Place
-    requires laid { (t : Tree) × Lays (slice_get forks.old) 128 (Node.Branch above) t }
-    requires slot { (slot < length forks.old) × (slot < 2 ^ 31) }
+fn insert_below(
+    forks: &mut Rows<Fork>,
+    above: u32,
+    key: Key,
+    bit: u32,
+    leaf: u32,
+    slot: u32,
+) -> Place
+    requires laid { (t : Tree) × Lays (slice_get forks.old.items) 128 (Node.Branch above) t }
+    requires slot { (slot < row_count forks.old) × (slot < 2 ^ 31) }
     requires leaf { leaf + 1 < 2 ^ 31 }
     requires bit { bit < 128 }
-    requires higher { (f : Fork) × (slice_get forks.old above ≡ Some f) × (bit < f.bit) }
+    requires higher { (f : Fork) × (slice_get forks.old.items above ≡ Some f) × (bit < f.bit) }
     ensures grown { (at : ℕ → ℕ) (top : ℕ) (t : Tree)
-        → CanGrow at (slice_get forks.old) top (Node.Branch above) t (code_of key) bit slot
-        → HasGrown (slice_get forks.old) (slice_get forks.new) top (Node.Branch above) t
+        → CanGrow at (slice_get forks.old.items) top (Node.Branch above) t (code_of key) bit slot
+        → HasGrown (slice_get forks.old.items) (slice_get forks.new.items) top (Node.Branch above) t
         (grown (code_of key) bit leaf slot t) slot }
     ensures place { (at : ℕ → ℕ) (t : Tree)
-        → Lays (slice_get forks.old) 128 (Node.Branch above) t → IsSplit at t (code_of key) bit
+        → Lays (slice_get forks.old.items) 128 (Node.Branch above) t → IsSplit at t (code_of key) bit
         → IsPlace at (code_of key) (leaves_of t) result }
+    ensures count { row_count forks.new ≡ row_count forks.old }
 {
     let fork = fork_in(forks, above);
     let set = key.is_set(fork.bit);
@@ -225,20 +237,21 @@ fn insert_below(forks: &mut [Fork], above: u32, key: Key, bit: u32, leaf: u32, s
 }
 
 /// Puts a leaf into a tree beside the part from which its key differs in that bit, and in none above it, by a fork in a slot.
-pub fn insert(forks: &mut [Fork], node: Node, key: Key, bit: u32, leaf: u32, slot: u32) -> Grown
-    requires laid { (t : Tree) × Lays (slice_get forks.old) 128 node t }
+pub fn insert(forks: &mut Rows<Fork>, node: Node, key: Key, bit: u32, leaf: u32, slot: u32) -> Grown
+    requires laid { (t : Tree) × Lays (slice_get forks.old.items) 128 node t }
     requires node { IsSmall node }
-    requires slot { (slot < length forks.old) × (slot < 2 ^ 31) }
+    requires slot { (slot < row_count forks.old) × (slot < 2 ^ 31) }
     requires leaf { leaf + 1 < 2 ^ 31 }
     requires bit { bit < 128 }
     ensures small { IsSmall result.node }
     ensures grown { (at : ℕ → ℕ) (top : ℕ) (t : Tree)
-        → CanGrow at (slice_get forks.old) top node t (code_of key) bit slot
-        → HasGrown (slice_get forks.old) (slice_get forks.new) top result.node t
+        → CanGrow at (slice_get forks.old.items) top node t (code_of key) bit slot
+        → HasGrown (slice_get forks.old.items) (slice_get forks.new.items) top result.node t
         (grown (code_of key) bit leaf slot t) slot }
-    ensures place { (at : ℕ → ℕ) (t : Tree) → Lays (slice_get forks.old) 128 node t
+    ensures place { (at : ℕ → ℕ) (t : Tree) → Lays (slice_get forks.old.items) 128 node t
         → IsSplit at t (code_of key) bit
         → IsPlace at (code_of key) (leaves_of t) result.place }
+    ensures count { row_count forks.new ≡ row_count forks.old }
 {
     if let Node::Branch(at) = node {
         if bit < fork_in(forks, at).bit {
@@ -256,16 +269,17 @@ pub fn insert(forks: &mut [Fork], node: Node, key: Key, bit: u32, leaf: u32, slo
 }
 
 /// Takes the leaf to which the bits of a key lead out of the tree at a fork, along whose branch of the key there is another fork.
-fn remove_below(forks: &mut [Fork], slot: u32, below: u32, key: Key) -> Gone
-    requires laid { (t : Tree) × Lays (slice_get forks.old) 128 (Node.Branch slot) t }
-    requires deeper { (f : Fork) × (slice_get forks.old slot ≡ Some f)
+fn remove_below(forks: &mut Rows<Fork>, slot: u32, below: u32, key: Key) -> Gone
+    requires laid { (t : Tree) × Lays (slice_get forks.old.items) 128 (Node.Branch slot) t }
+    requires deeper { (f : Fork) × (slice_get forks.old.items slot ≡ Some f)
         × ((if bit_of (code_of key) f.bit then f.one else f.zero) ≡ Node.Branch below) }
     ensures tree { (at : ℕ → ℕ) (top : ℕ) (t : Tree)
-        → Lays (slice_get forks.old) top (Node.Branch slot) t → Sorted at t
-        → HasPruned (slice_get forks.old) (slice_get forks.new) top (Node.Branch slot) t
+        → Lays (slice_get forks.old.items) top (Node.Branch slot) t → Sorted at t
+        → HasPruned (slice_get forks.old.items) (slice_get forks.new.items) top (Node.Branch slot) t
         (code_of key) result.slot }
-    ensures leaf { (t : Tree) → Lays (slice_get forks.old) 128 (Node.Branch slot) t
+    ensures leaf { (t : Tree) → Lays (slice_get forks.old.items) 128 (Node.Branch slot) t
         → result.leaf ≡ near (code_of key) t }
+    ensures count { row_count forks.new ≡ row_count forks.old }
 {
     let next = fork_in(forks, below);
     let on = key.is_set(next.bit);
@@ -281,16 +295,17 @@ fn remove_below(forks: &mut [Fork], slot: u32, below: u32, key: Key) -> Gone
 }
 
 /// Takes the leaf to which the bits of a key lead out of the tree at a fork.
-pub fn remove(forks: &mut [Fork], slot: u32, key: Key) -> Cut
-    requires laid { (t : Tree) × Lays (slice_get forks.old) 128 (Node.Branch slot) t }
+pub fn remove(forks: &mut Rows<Fork>, slot: u32, key: Key) -> Cut
+    requires laid { (t : Tree) × Lays (slice_get forks.old.items) 128 (Node.Branch slot) t }
     requires slot { slot < 2 ^ 31 }
     ensures small { IsSmall result.node }
     ensures tree { (at : ℕ → ℕ) (top : ℕ) (t : Tree)
-        → Lays (slice_get forks.old) top (Node.Branch slot) t → Sorted at t
-        → HasPruned (slice_get forks.old) (slice_get forks.new) top result.node t (code_of key)
+        → Lays (slice_get forks.old.items) top (Node.Branch slot) t → Sorted at t
+        → HasPruned (slice_get forks.old.items) (slice_get forks.new.items) top result.node t (code_of key)
         result.slot }
-    ensures leaf { (t : Tree) → Lays (slice_get forks.old) 128 (Node.Branch slot) t
+    ensures leaf { (t : Tree) → Lays (slice_get forks.old.items) 128 (Node.Branch slot) t
         → result.leaf ≡ near (code_of key) t }
+    ensures count { row_count forks.new ≡ row_count forks.old }
 {
     let fork = fork_in(forks, slot);
     let set = key.is_set(fork.bit);

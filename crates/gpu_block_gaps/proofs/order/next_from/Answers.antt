@@ -1,4 +1,4 @@
-use Rattle.std.proofs.Common.{◌≡◌, ◌+◌, ◌*◌, ◌^◌, ◌<◌, ◌≤◌, ℕ, None, false, sym, ap, subst, ◌∙◌, arith, vec_capacity}
+use Rattle.std.proofs.Common.{◌≡◌, ◌+◌, ◌*◌, ◌^◌, ◌<◌, ◌≤◌, ℕ, None, false, sym, ap, subst, ◌∙◌, arith}
 use Rattle.std.proofs.lemmas.Option.{same_Some, MatchOption-at_some, MatchOption-at_none}
 use Rattle.std.specs.List.{slice_get}
 use Rattle.gpu_block_gaps.specs.Key.{code_of, bit_of}
@@ -42,7 +42,7 @@ returns-then-bit-lt-START_BITS c = λ place is.
     let trees = c.requires.near.0 in
     let are = c.requires.near.1 in
     let at = subst (λ (m : Nearby). IsNearby key f.scale trees n m) c.in-Apart.is c.requires.near.2 in
-    let there = root_there key f.scale f.forks.items f.spare.items (vec_capacity f.spare) f.roots.items f.classes trees are.forest (class_in f.scale n) at.0 at.1 in
+    let there = root_there key f.scale f.forks.items f.spare.items f.spare.capacity f.roots.items f.classes trees are.forest (class_in f.scale n) at.0 at.1 in
     let laid = subst (Lays (slice_get f.forks.items) 128 there.0) (same_Some _ _ (sym there.2.is ∙ at.1)) there.2.laid in
     let whole : n ≡ c.args.key.length * 2 ^ 64 + 0 = ap (λ s. c.args.key.length * 2 ^ 64 + s) c.requires.start in
     let zeros : (b : ℕ) → b ≤ c.in-Apart.bit → bit_of n b ≡ false = λ b le.

@@ -6,5 +6,5 @@ use Rattle.gpu_block_gaps.proofs.thread.link.Goals as goal
 
 pub returns-clause-gaps : goal.returns-clause-gaps
 returns-clause-gaps c =
-    c.set_prev.ensures.gaps ∙ c.set_next.ensures.gaps ∙ map-set gap_of c.args.records.now c.args.slot c.new.result
-    ∙ ap (λ (r : Record). set (map gap_of c.args.records.now) c.args.slot r.gap) c.new.ensures
+    c.set_prev.ensures.gaps ∙ c.set_next.ensures.gaps ∙ map-set gap_of c.args.records.now.items c.args.slot c.new.result
+    ∙ ap (λ (r : Record). set (map gap_of c.args.records.now.items) c.args.slot r.gap) c.new.ensures

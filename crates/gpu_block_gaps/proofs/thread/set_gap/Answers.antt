@@ -6,4 +6,4 @@ use Rattle.gpu_block_gaps.proofs.thread.set_gap.Goals as goal
 
 pub returns-clause-gaps : goal.returns-clause-gaps
 returns-clause-gaps c =
-    map-set gap_of c.args.records.now c.args.slot _ ∙ ap (λ (r : Record). set (map gap_of c.args.records.now) c.args.slot r.gap) c.set_gap.ensures
+    map-set gap_of c.args.records.now.items c.args.slot _ ∙ ap (λ (r : Record). set (map gap_of c.args.records.now.items) c.args.slot r.gap) c.set_gap.ensures

@@ -8,12 +8,12 @@ use Rattle.gpu_block_gaps.proofs.tree.+first.Goals as goal
 
 pub fork_in-requires : goal.fork_in-requires
 fork_in-requires t c =
-    let there = fork_at (slice_get c.args.forks.now) 128 c.args.node c.requires.0 c.in-Branch.slot c.requires.1 c.in-Branch.is in
-    slice_get_within c.args.forks.now c.in-Branch.slot _ there.read
+    let there = fork_at (slice_get c.args.forks.now.items) 128 c.args.node c.requires.0 c.in-Branch.slot c.requires.1 c.in-Branch.is in
+    slice_get_within c.args.forks.now.items c.in-Branch.slot _ there.read
 
 pub first-requires : goal.first-requires
 first-requires t c =
-    let slots = slice_get c.args.forks.now in
+    let slots = slice_get c.args.forks.now.items in
     let f = c.fork_in.result in
     let there = fork_read slots 128 c.args.node c.requires.0 c.in-Branch.slot f c.requires.1 c.in-Branch.is c.fork_in.ensures in
     let laid = subst (λ (n : Node). Lays slots f.bit n there.x) (sym c.node.ensures.is) there.left in
@@ -25,7 +25,7 @@ returns-in-Leaf t c = λ u laid. sym (ap first_leaf (tip_at _ 128 c.args.node u 
 
 pub returns-in-Branch : goal.returns-in-Branch
 returns-in-Branch t c = λ u laid.
-    let slots = slice_get c.args.forks.now in
+    let slots = slice_get c.args.forks.now.items in
     let f = c.fork_in.result in
     let there = fork_read slots 128 c.args.node u c.in-Branch.slot f laid c.in-Branch.is c.fork_in.ensures in
     let laid = subst (λ (n : Node). Lays slots f.bit n there.x) (sym c.node.ensures.is) there.left in

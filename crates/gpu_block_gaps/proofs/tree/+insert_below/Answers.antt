@@ -17,12 +17,12 @@ use Rattle.gpu_block_gaps.proofs.tree.+insert_below.Goals.{in_Branch-branch+else
 
 pub is_set-set-requires : goal.is_set-set-requires
 is_set-set-requires t c =
-    let there = fork_read (slice_get c.args.forks.now) 128 (Branch c.args.above) (c.requires.laid).0 c.args.above c.fork_in-fork.result (c.requires.laid).1 refl c.fork_in-fork.ensures in
+    let there = fork_read (slice_get c.args.forks.now.items) 128 (Branch c.args.above) (c.requires.laid).0 c.args.above c.fork_in-fork.result (c.requires.laid).1 refl c.fork_in-fork.ensures in
     there.below
 
 pub fork_in-requires : goal.fork_in-requires
 fork_in-requires t c =
-    let slots = slice_get c.args.forks.now in
+    let slots = slice_get c.args.forks.now.items in
     let f = c.fork_in-fork.result in
     let there = fork_read slots 128 (Branch c.args.above) (c.requires.laid).0 c.args.above f (c.requires.laid).1 refl c.fork_in-fork.ensures in
     let b = bit_of (code_of c.args.key) f.bit in
@@ -30,11 +30,11 @@ fork_in-requires t c =
     let laid : Lays slots f.bit (Branch c.in_Branch-branch.below) (cond b there.y there.x) =
     subst (λ (n : Node). Lays slots f.bit n (cond b there.y there.x)) way (lays_branch b slots f.bit f.zero f.one there.x there.y there.left there.right) in
     let next = fork_at slots f.bit (Branch c.in_Branch-branch.below) (cond b there.y there.x) c.in_Branch-branch.below laid refl in
-    slice_get_within c.args.forks.now c.in_Branch-branch.below _ next.read
+    slice_get_within c.args.forks.now.items c.in_Branch-branch.below _ next.read
 
 pub insert_below-requires : goal.insert_below-requires
 insert_below-requires t c =
-    let slots = slice_get c.args.forks.now in
+    let slots = slice_get c.args.forks.now.items in
     let f = c.fork_in-fork.result in
     let there = fork_read slots 128 (Branch c.args.above) (c.requires.laid).0 c.args.above f (c.requires.laid).1 refl c.fork_in-fork.ensures in
     let b = bit_of (code_of c.args.key) f.bit in
@@ -46,8 +46,8 @@ insert_below-requires t c =
 
 pub returns-then-bit-fork_in-clause-grown : goal.returns-then-bit-fork_in-clause-grown
 returns-then-bit-fork_in-clause-grown t c = λ key top u can.
-    let old = slice_get c.args.forks.now in
-    let new = slice_get c.insert_below.new.forks in
+    let old = slice_get c.args.forks.now.items in
+    let new = slice_get c.insert_below.new.forks.items in
     let n = code_of c.args.key in
     let f = c.fork_in-fork.result in
     let bit = c.args.bit in
@@ -63,7 +63,7 @@ returns-then-bit-fork_in-clause-grown t c = λ key top u can.
 
 pub returns-then-bit-fork_in-clause-place : goal.returns-then-bit-fork_in-clause-place
 returns-then-bit-fork_in-clause-place t c = λ key u standing split.
-    let slots = slice_get c.args.forks.now in
+    let slots = slice_get c.args.forks.now.items in
     let n = code_of c.args.key in
     let f = c.fork_in-fork.result in
     let there = fork_read slots 128 (Branch c.args.above) u c.args.above f standing refl c.fork_in-fork.ensures in
@@ -80,7 +80,7 @@ returns-then-bit-fork_in-clause-place t c = λ key u standing split.
 
 pub place_beside-place-requires : goal.place_beside-place-requires
 place_beside-place-requires t c =
-    let slots = slice_get c.args.forks.now in
+    let slots = slice_get c.args.forks.now.items in
     let f = c.fork_in-fork.result in
     let there = fork_read slots 128 (Branch c.args.above) (c.requires.laid).0 c.args.above f (c.requires.laid).1 refl c.fork_in-fork.ensures in
     let b = bit_of (code_of c.args.key) f.bit in
@@ -104,7 +104,7 @@ returns-clause-place t c = λ key u standing split. whole key u standing split
     n = code_of c.args.key
 
     slots : Slots
-    slots = slice_get c.args.forks.now
+    slots = slice_get c.args.forks.now.items
 
     f : Fork
     f = c.fork_in-fork.result
@@ -150,7 +150,7 @@ returns-clause-place t c = λ key u standing split. whole key u standing split
         (place_branch key c.args.above f.bit there.x there.y n c.args.bit c.place_beside-place.result split' lt b refl part)
 
 pub put-requires-2 : goal.put-requires-2
-put-requires-2 t c = let within = slice_get_within c.args.forks.now c.args.above _ c.fork_in-fork.ensures in search rules
+put-requires-2 t c = let within = slice_get_within c.args.forks.now.items c.args.above _ c.fork_in-fork.ensures in search rules
 
 pub returns-clause-grown : goal.returns-clause-grown
 returns-clause-grown t c = λ key top u can. whole key top u can
@@ -159,13 +159,13 @@ returns-clause-grown t c = λ key top u can. whole key top u can
     n = code_of c.args.key
 
     old : Slots
-    old = slice_get c.args.forks.now
+    old = slice_get c.args.forks.now.items
 
     mid : Slots
-    mid = slice_get c.put.new.forks
+    mid = slice_get c.put.new.forks.items
 
     new : Slots
-    new = slice_get c.put-2.new.forks
+    new = slice_get c.put-2.new.forks.items
 
     f : Fork
     f = c.fork_in-fork.result

@@ -9,17 +9,17 @@ use Rattle.gpu_block_gaps.proofs.tree.+nearest.Goals as goal
 
 pub fork_in-fork-requires : goal.fork_in-fork-requires
 fork_in-fork-requires t c =
-    let there = fork_at (slice_get c.args.forks.now) 128 c.args.node c.requires.0 c.in-Branch.slot c.requires.1 c.in-Branch.is in
-    slice_get_within c.args.forks.now c.in-Branch.slot _ there.read
+    let there = fork_at (slice_get c.args.forks.now.items) 128 c.args.node c.requires.0 c.in-Branch.slot c.requires.1 c.in-Branch.is in
+    slice_get_within c.args.forks.now.items c.in-Branch.slot _ there.read
 
 pub is_set-requires : goal.is_set-requires
 is_set-requires t c =
-    let there = fork_read (slice_get c.args.forks.now) 128 c.args.node c.requires.0 c.in-Branch.slot c.fork_in-fork.result c.requires.1 c.in-Branch.is c.fork_in-fork.ensures in
+    let there = fork_read (slice_get c.args.forks.now.items) 128 c.args.node c.requires.0 c.in-Branch.slot c.fork_in-fork.result c.requires.1 c.in-Branch.is c.fork_in-fork.ensures in
     there.below
 
 pub nearest-requires : goal.nearest-requires
 nearest-requires t c =
-    let slots = slice_get c.args.forks.now in
+    let slots = slice_get c.args.forks.now.items in
     let f = c.fork_in-fork.result in
     let there = fork_read slots 128 c.args.node c.requires.0 c.in-Branch.slot f c.requires.1 c.in-Branch.is c.fork_in-fork.ensures in
     let b = bit_of (code_of c.args.key) f.bit in
@@ -34,7 +34,7 @@ returns-in-Leaf t c = λ u laid. sym (ap (near (code_of c.args.key)) (tip_at _ 1
 
 pub returns-in-Branch : goal.returns-in-Branch
 returns-in-Branch t c = λ u standing.
-    let slots = slice_get c.args.forks.now in
+    let slots = slice_get c.args.forks.now.items in
     let n = code_of c.args.key in
     let f = c.fork_in-fork.result in
     let there = fork_read slots 128 c.args.node u c.in-Branch.slot f standing c.in-Branch.is c.fork_in-fork.ensures in

@@ -12,17 +12,17 @@ use Rattle.gpu_block_gaps.proofs.tree.+place_of.Goals.{in-Branch+else-bit-fork, 
 
 pub fork_in-fork-requires : goal.fork_in-fork-requires
 fork_in-fork-requires t c =
-    let there = fork_at (slice_get c.args.forks.now) 128 c.args.node (c.requires.laid).0 c.in-Branch.at (c.requires.laid).1 c.in-Branch.is in
-    slice_get_within c.args.forks.now c.in-Branch.at _ there.read
+    let there = fork_at (slice_get c.args.forks.now.items) 128 c.args.node (c.requires.laid).0 c.in-Branch.at (c.requires.laid).1 c.in-Branch.is in
+    slice_get_within c.args.forks.now.items c.in-Branch.at _ there.read
 
 pub is_set-requires : goal.is_set-requires
 is_set-requires t c =
-    let there = fork_read (slice_get c.args.forks.now) 128 c.args.node (c.requires.laid).0 c.in-Branch.at c.fork_in-fork.result (c.requires.laid).1 c.in-Branch.is c.fork_in-fork.ensures in
+    let there = fork_read (slice_get c.args.forks.now.items) 128 c.args.node (c.requires.laid).0 c.in-Branch.at c.fork_in-fork.result (c.requires.laid).1 c.in-Branch.is c.fork_in-fork.ensures in
     there.below
 
 pub place_of-requires : goal.place_of-requires
 place_of-requires t c =
-    let slots = slice_get c.args.forks.now in
+    let slots = slice_get c.args.forks.now.items in
     let f = c.fork_in-fork.result in
     let there = fork_read slots 128 c.args.node (c.requires.laid).0 c.in-Branch.at f (c.requires.laid).1 c.in-Branch.is c.fork_in-fork.ensures in
     let b = bit_of (code_of c.args.key) f.bit in
@@ -34,7 +34,7 @@ place_of-requires t c =
 
 pub returns-then-bit-fork : goal.returns-then-bit-fork
 returns-then-bit-fork t c = λ key u standing split.
-    let slots = slice_get c.args.forks.now in
+    let slots = slice_get c.args.forks.now.items in
     let n = code_of c.args.key in
     let f = c.fork_in-fork.result in
     let there = fork_read slots 128 c.args.node u c.in-Branch.at f standing c.in-Branch.is c.fork_in-fork.ensures in
@@ -58,7 +58,7 @@ returns t c = λ key u laid split. subst (IsPlace key n (leaves_of u)) (sym (pla
     n = code_of c.args.key
 
     slots : Slots
-    slots = slice_get c.args.forks.now
+    slots = slice_get c.args.forks.now.items
 
     same_node : c.args.node ≡ c.match-node.node
     same_node =

@@ -18,17 +18,17 @@ laid_below slots b bit below zero one x y way left right = subst (λ (n : Node).
 
 pub fork_in-next-requires : goal.fork_in-next-requires
 fork_in-next-requires t c =
-    let slots = slice_get c.args.forks.now in
+    let slots = slice_get c.args.forks.now.items in
     let f = (c.requires.deeper).0 in
     let there = fork_read slots 128 (Branch c.args.slot) (c.requires.laid).0 c.args.slot f (c.requires.laid).1 refl (c.requires.deeper).1 in
     let b = bit_of (code_of c.args.key) f.bit in
     let way : cond b f.one f.zero ≡ Branch c.args.below = (c.requires.deeper).2 in
     let next = fork_at slots f.bit (Branch c.args.below) (cond b there.y there.x) c.args.below (laid_below slots b f.bit c.args.below f.zero f.one there.x there.y way there.left there.right) refl in
-    slice_get_within c.args.forks.now c.args.below _ next.read
+    slice_get_within c.args.forks.now.items c.args.below _ next.read
 
 pub is_set-on-requires : goal.is_set-on-requires
 is_set-on-requires t c =
-    let slots = slice_get c.args.forks.now in
+    let slots = slice_get c.args.forks.now.items in
     let f = (c.requires.deeper).0 in
     let there = fork_read slots 128 (Branch c.args.slot) (c.requires.laid).0 c.args.slot f (c.requires.laid).1 refl (c.requires.deeper).1 in
     let b = bit_of (code_of c.args.key) f.bit in
@@ -39,19 +39,19 @@ is_set-on-requires t c =
     omega arith
 
 pub fork_in-fork-requires : goal.fork_in-fork-requires
-fork_in-fork-requires t c = slice_get_within c.args.forks.now c.args.slot _ (c.requires.deeper).1
+fork_in-fork-requires t c = slice_get_within c.args.forks.now.items c.args.slot _ (c.requires.deeper).1
 
 pub is_set-set-requires : goal.is_set-set-requires
 is_set-set-requires t c =
-    let there = fork_read (slice_get c.args.forks.now) 128 (Branch c.args.slot) (c.requires.laid).0 c.args.slot c.fork_in-fork.result (c.requires.laid).1 refl c.fork_in-fork.ensures in
+    let there = fork_read (slice_get c.args.forks.now.items) 128 (Branch c.args.slot) (c.requires.laid).0 c.args.slot c.fork_in-fork.result (c.requires.laid).1 refl c.fork_in-fork.ensures in
     there.below
 
 pub put-requires : goal.put-requires
-put-requires t c = slice_get_within c.args.forks.now c.args.slot _ (c.requires.deeper).1
+put-requires t c = slice_get_within c.args.forks.now.items c.args.slot _ (c.requires.deeper).1
 
 pub remove_below-requires : goal.remove_below-requires
 remove_below-requires t c =
-    let slots = slice_get c.args.forks.now in
+    let slots = slice_get c.args.forks.now.items in
     let f = (c.requires.deeper).0 in
     let there = fork_read slots 128 (Branch c.args.slot) (c.requires.laid).0 c.args.slot f (c.requires.laid).1 refl (c.requires.deeper).1 in
     let b = bit_of (code_of c.args.key) f.bit in
@@ -78,8 +78,8 @@ fork_there slots top node u at laid is = let there = fork_at slots top node u at
 
 pub returns-in_Leaf-leaf-clause-tree : goal.returns-in_Leaf-leaf-clause-tree
 returns-in_Leaf-leaf-clause-tree t c = λ key top u laid sorted.
-    let old = slice_get c.args.forks.now in
-    let new = slice_get c.put.new.forks in
+    let old = slice_get c.args.forks.now.items in
+    let new = slice_get c.put.new.forks.items in
     let n = code_of c.args.key in
     let f = c.fork_in-fork.result in
     let g = c.fork_in-next.result in
@@ -111,7 +111,7 @@ returns-in_Leaf-leaf-clause-tree t c = λ key top u laid sorted.
 
 pub returns-in_Leaf-leaf-clause-leaf : goal.returns-in_Leaf-leaf-clause-leaf
 returns-in_Leaf-leaf-clause-leaf t c = λ u laid.
-    let slots = slice_get c.args.forks.now in
+    let slots = slice_get c.args.forks.now.items in
     let n = code_of c.args.key in
     let f = (c.requires.deeper).0 in
     let g = c.fork_in-next.result in
@@ -127,8 +127,8 @@ returns-in_Leaf-leaf-clause-leaf t c = λ u laid.
 
 pub returns-in_Branch-leaf-clause-tree : goal.returns-in_Branch-leaf-clause-tree
 returns-in_Branch-leaf-clause-tree t c = λ key top u laid sorted.
-    let old = slice_get c.args.forks.now in
-    let new = slice_get c.remove_below.new.forks in
+    let old = slice_get c.args.forks.now.items in
+    let new = slice_get c.remove_below.new.forks.items in
     let n = code_of c.args.key in
     let f = (c.requires.deeper).0 in
     let at = c.args.slot in
@@ -146,7 +146,7 @@ returns-in_Branch-leaf-clause-tree t c = λ key top u laid sorted.
 
 pub returns-in_Branch-leaf-clause-leaf : goal.returns-in_Branch-leaf-clause-leaf
 returns-in_Branch-leaf-clause-leaf t c = λ u laid.
-    let slots = slice_get c.args.forks.now in
+    let slots = slice_get c.args.forks.now.items in
     let n = code_of c.args.key in
     let f = (c.requires.deeper).0 in
     let there = fork_read slots 128 (Branch c.args.slot) u c.args.slot f laid refl (c.requires.deeper).1 in

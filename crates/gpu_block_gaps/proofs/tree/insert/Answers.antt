@@ -16,16 +16,16 @@ use Rattle.gpu_block_gaps.proofs.tree.insert.Goals.{in-Branch+else-bit-fork_in, 
 
 pub fork_in-requires : goal.fork_in-requires
 fork_in-requires c =
-    let there = fork_at (slice_get c.args.forks.now) 128 c.args.node (c.requires.laid).0 c.in-Branch.at (c.requires.laid).1 c.in-Branch.is in
-    slice_get_within c.args.forks.now c.in-Branch.at _ there.read
+    let there = fork_at (slice_get c.args.forks.now.items) 128 c.args.node (c.requires.laid).0 c.in-Branch.at (c.requires.laid).1 c.in-Branch.is in
+    slice_get_within c.args.forks.now.items c.in-Branch.at _ there.read
 
 pub returns-then-bit-fork_in-clause-grown : goal.returns-then-bit-fork_in-clause-grown
 returns-then-bit-fork_in-clause-grown c = λ key top u can.
-    c.insert_below-place.ensures.grown key top u (subst (λ (m : Node). CanGrow key (slice_get c.args.forks.now) top m u (code_of c.args.key) c.args.bit c.args.slot) c.in-Branch.is can)
+    c.insert_below-place.ensures.grown key top u (subst (λ (m : Node). CanGrow key (slice_get c.args.forks.now.items) top m u (code_of c.args.key) c.args.bit c.args.slot) c.in-Branch.is can)
 
 pub returns-then-bit-fork_in-clause-place : goal.returns-then-bit-fork_in-clause-place
 returns-then-bit-fork_in-clause-place c = λ key u standing split.
-    c.insert_below-place.ensures.place key u (subst (λ (m : Node). Lays (slice_get c.args.forks.now) 128 m u) c.in-Branch.is standing) split
+    c.insert_below-place.ensures.place key u (subst (λ (m : Node). Lays (slice_get c.args.forks.now.items) 128 m u) c.in-Branch.is standing) split
 
 pub place_beside-place-requires : goal.place_beside-place-requires
 place_beside-place-requires c =
@@ -34,7 +34,7 @@ place_beside-place-requires c =
       | in-Branch+else-bit-fork_in w ↦ (let a = w.node-is in let b = w.in-Branch.is in cc)
       | in_default w ↦ (let a = w.node-is in let b = w.in_default.is in cc)
     ] in
-    ((c.requires.laid).0, subst (λ (m : Node). Lays (slice_get c.args.forks.now) 128 m (c.requires.laid).0) (sym same_node) (c.requires.laid).1)
+    ((c.requires.laid).0, subst (λ (m : Node). Lays (slice_get c.args.forks.now.items) 128 m (c.requires.laid).0) (sym same_node) (c.requires.laid).1)
 
 bit_same : (k j b d : ℕ) (x y v w : Tree) → fork k b x y ≡ fork j d v w → b ≡ d
 bit_same k j b d x y v w same = cc
@@ -46,7 +46,7 @@ returns-clause-place c = λ key u laid split. subst (IsPlace key n (leaves_of u)
     n = code_of c.args.key
 
     slots : Slots
-    slots = slice_get c.args.forks.now
+    slots = slice_get c.args.forks.now.items
 
     same_node : c.args.node ≡ c.match-node.node
     same_node =
@@ -81,10 +81,10 @@ returns-clause-grown c = λ key top u can. by_tree key top u can
     n = code_of c.args.key
 
     old : Slots
-    old = slice_get c.args.forks.now
+    old = slice_get c.args.forks.now.items
 
     new : Slots
-    new = slice_get c.put.new.forks
+    new = slice_get c.put.new.forks.items
 
     same_node : c.match-node.node ≡ c.args.node
     same_node =

@@ -11,12 +11,12 @@ use Rattle.gpu_block_gaps.proofs.tree.remove.Goals as goal
 
 pub fork_in-fork-requires : goal.fork_in-fork-requires
 fork_in-fork-requires c =
-    let there = fork_at (slice_get c.args.forks.now) 128 (Branch c.args.slot) c.requires.laid.0 c.args.slot c.requires.laid.1 refl in
-    slice_get_within c.args.forks.now c.args.slot _ there.read
+    let there = fork_at (slice_get c.args.forks.now.items) 128 (Branch c.args.slot) c.requires.laid.0 c.args.slot c.requires.laid.1 refl in
+    slice_get_within c.args.forks.now.items c.args.slot _ there.read
 
 pub is_set-set-requires : goal.is_set-set-requires
 is_set-set-requires c =
-    let there = fork_read (slice_get c.args.forks.now) 128 (Branch c.args.slot) c.requires.laid.0 c.args.slot c.fork_in-fork.result c.requires.laid.1 refl c.fork_in-fork.ensures in
+    let there = fork_read (slice_get c.args.forks.now.items) 128 (Branch c.args.slot) c.requires.laid.0 c.args.slot c.fork_in-fork.result c.requires.laid.1 refl c.fork_in-fork.ensures in
     there.below
 
 turned : (c : Bool) (zero one : Node) → cond (not c) one zero ≡ cond c zero one
@@ -32,7 +32,7 @@ fork_there slots top node u at laid is = let there = fork_at slots top node u at
 
 pub returns-in_Leaf-leaf-clause-tree : goal.returns-in_Leaf-leaf-clause-tree
 returns-in_Leaf-leaf-clause-tree c = λ key top u laid sorted.
-    let slots = slice_get c.args.forks.now in
+    let slots = slice_get c.args.forks.now.items in
     let n = code_of c.args.key in
     let f = c.fork_in-fork.result in
     let there = fork_read slots top (Branch c.args.slot) u c.args.slot f laid refl c.fork_in-fork.ensures in
@@ -48,7 +48,7 @@ returns-in_Leaf-leaf-clause-tree c = λ key top u laid sorted.
 
 pub returns-in_Leaf-leaf-clause-leaf : goal.returns-in_Leaf-leaf-clause-leaf
 returns-in_Leaf-leaf-clause-leaf c = λ u laid.
-    let slots = slice_get c.args.forks.now in
+    let slots = slice_get c.args.forks.now.items in
     let n = code_of c.args.key in
     let f = c.fork_in-fork.result in
     let there = fork_read slots 128 (Branch c.args.slot) u c.args.slot f laid refl c.fork_in-fork.ensures in

@@ -1,14 +1,11 @@
-use Rattle.std.proofs.Common.{arith, List, sym, subst}
-use Rattle.std.specs.List.{slice_get}
-use Rattle.gpu_block_gaps.specs.declared.tree.Fork.{Fork}
-use Rattle.gpu_block_gaps.specs.Tree.{Lays}
+use Rattle.std.proofs.Common.{arith}
 use Rattle.gpu_block_gaps.proofs.Forests.{tree_there, none_outside}
 use Rattle.gpu_block_gaps.proofs.forest.Forest.first_later.Goals as goal
 
 pub first-requires : goal.first-requires
 first-requires c =
     let there = tree_there c.requires.forest.0 _ _ _ _ _ _ c.requires.forest.1 c.requires.forest.2 c.in_ok-later.later c.root_of-root.result c.root_of-root.ensures.is in
-    (there.tree, subst (λ (fs : List Fork). Lays (slice_get fs) 128 c.root_of-root.result there.tree) (sym c.deref.ensures.value) there.laid)
+    (there.tree, there.laid)
 
 pub returns : goal.returns
 returns c = λ key trees are.
@@ -19,6 +16,6 @@ returns c = λ key trees are.
       tree = there.tree;
       later = (let behind = found.behind in omega arith);
       is = there.is;
-      first = c.first.ensures there.tree (subst (λ (fs : List Fork). Lays (slice_get fs) 128 c.root_of-root.result there.tree) (sym c.deref.ensures.value) there.laid);
+      first = c.first.ensures there.tree (there.laid);
       none = λ d after before. none_outside key _ _ _ _ _ _ trees are d (found.least d (omega arith) before);
     }

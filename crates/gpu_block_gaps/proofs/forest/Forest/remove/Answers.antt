@@ -1,10 +1,8 @@
-use Rattle.std.proofs.Common.{◌≡◌, ◌<◌, ℕ, List, [], ◌∷◌, ◌++◌, Option, None, false, sym, ap, subst, ◌∙◌, refl, length, set, Some, vec_capacity, arith, rules}
+use Rattle.std.proofs.Common.{◌≡◌, ◌<◌, ℕ, List, [], ◌∷◌, ◌++◌, Option, None, false, sym, ap, subst, ◌∙◌, refl, length, set, Some, rules}
 use Rattle.std.specs.List.{slice_get}
 use Rattle.std.proofs.lemmas.Option.{same_Some}
-use Rattle.std.proofs.lemmas.List.{with_items_is}
 use Rattle.gpu_block_gaps.specs.declared.tree.Node.{Node}
 use Rattle.gpu_block_gaps.specs.declared.tree.Node.TheVariants.{Leaf, Branch}
-use Rattle.gpu_block_gaps.specs.declared.tree.Fork.{Fork}
 use Rattle.gpu_block_gaps.specs.Key.{code_of}
 use Rattle.gpu_block_gaps.specs.Tree.{Tree, tip, Slots, Lays, Sorted, near, is_tip, pruned, HasPruned}
 use Rattle.gpu_block_gaps.specs.Forest.{class_in, tree_at, root_at, AreTrees}
@@ -23,7 +21,7 @@ remove-cut-requires-clause-laid c =
     let read = c.root_of.ensures.is in
     let rooted : root_at c.args.self.now.roots.items c.args.class ≡ Some (Branch c.in-Branch.slot) = cc in
     let there = tree_there known.0 _ _ _ _ _ _ known.1 known.2 c.args.class (Branch c.in-Branch.slot) rooted in
-    (there.tree, subst (λ (fs : List Fork). Lays (slice_get fs) 128 (Branch c.in-Branch.slot) there.tree) (sym c.deref_mut.ensures.value) there.laid)
+    (there.tree, there.laid)
 
 pub push_reserved-requires : goal.push_reserved-requires
 push_reserved-requires c =
@@ -31,7 +29,7 @@ push_reserved-requires c =
     let read = c.root_of.ensures.is in
     let rooted : root_at c.args.self.now.roots.items c.args.class ≡ Some (Branch c.in-Branch.slot) = cc in
     let there = tree_there known.0 _ _ _ _ _ _ known.1 known.2 c.args.class (Branch c.in-Branch.slot) rooted in
-    let room : length c.args.self.now.spare.items < vec_capacity c.args.self.now.spare =
+    let room : length c.args.self.now.spare.items < c.args.self.now.spare.capacity =
     spare_room known.0 _ _ _ _ _ _ known.1 known.2 c.args.class there.tree there.is (fork_there _ there.tree c.in-Branch.slot there.laid) in
     search rules
 
@@ -51,27 +49,22 @@ returns-in-Branch-clause-trees c = λ key trees t are is.
     let sorted : Sorted key t = subst (Sorted key) same there.sorted in
     let more = fork_there (slice_get self.forks.items) t c.in-Branch.slot laid in
     let n = code_of c.args.key in
-    let value = c.deref_mut.ensures.value in
-    let forks' = c.remove-cut.new.forks in
+    let forks' = c.remove-cut.new.forks.items in
     let cut = c.remove-cut.result in
-    let laid' : Lays (slice_get c.deref_mut.result.now) 128 node t = subst (λ (fs : List Fork). Lays (slice_get fs) 128 node t) (sym value) laid in
-    let gone : HasPruned (slice_get self.forks.items) (slice_get forks') 128 cut.node t n cut.slot =
-    subst (λ (fs : List Fork). HasPruned (slice_get fs) (slice_get forks') 128 cut.node t n cut.slot) value (c.remove-cut.ensures.tree key 128 t laid' sorted) in
-    let long : length forks' ≡ length self.forks.items = (let a = c.remove-cut.auto.forks in let b = ap length value in omega arith) in
+    let laid' : Lays (slice_get c.args.self.now.forks.items) 128 node t = laid in
+    let gone : HasPruned (slice_get self.forks.items) (slice_get forks') 128 cut.node t n cut.slot = c.remove-cut.ensures.tree key 128 t laid' sorted in
+    let long : length forks' ≡ length self.forks.items = c.remove-cut.ensures.count in
     let planted = pruned_planted key _ _ _ _ _ _ trees are forks' cut.slot at node cut.node t n rooted found more within long gone in
-    let rooted' = subst (λ (r : Option Node). AreTrees key self.scale forks' (self.spare.items ++ cut.slot ∷ []) (vec_capacity self.spare) (set self.roots.items at r) self.classes
+    let rooted' = subst (λ (r : Option Node). AreTrees key self.scale forks' (self.spare.items ++ cut.slot ∷ []) self.spare.capacity (set self.roots.items at r) self.classes
     (set trees at (Some (pruned n t)))) (sym c.at.ensures) planted in
-    let moved = with_items_is self.forks forks' (let a = c.remove-cut.auto.forks in let b = c.deref_mut.ensures.len in omega arith) in
     let spare' = c.push_reserved.new.self in (
       Some (pruned n t),
-      subst (λ (fs : List Fork). AreTrees key self.scale fs spare'.items (vec_capacity spare') (set self.roots.items at c.at.result) self.classes
-          (set trees (class_in self.scale n) (Some (pruned n t)))) (sym moved)
-          (subst (λ (ss : List ℕ). AreTrees key self.scale forks' ss (vec_capacity spare') (set self.roots.items at c.at.result) self.classes
+      subst (λ (ss : List ℕ). AreTrees key self.scale forks' ss spare'.capacity (set self.roots.items at c.at.result) self.classes
           (set trees (class_in self.scale n) (Some (pruned n t)))) (sym c.push_reserved.ensures.items)
           (subst (λ r. AreTrees key self.scale forks' (self.spare.items ++ cut.slot ∷ []) r (set self.roots.items at c.at.result) self.classes
           (set trees (class_in self.scale n) (Some (pruned n t)))) (sym c.push_reserved.ensures.capacity)
-          (subst (λ k. AreTrees key self.scale forks' (self.spare.items ++ cut.slot ∷ []) (vec_capacity self.spare) (set self.roots.items at c.at.result) self.classes
-          (set trees k (Some (pruned n t)))) class rooted'))),
+          (subst (λ k. AreTrees key self.scale forks' (self.spare.items ++ cut.slot ∷ []) self.spare.capacity (set self.roots.items at c.at.result) self.classes
+          (set trees k (Some (pruned n t)))) class rooted')),
       without_leaf key n t sorted more,
     )
 
@@ -90,10 +83,10 @@ returns-in-Leaf-clause-trees c = λ key trees t are is.
     let whole : t ≡ tip leaf = sym same ∙ alone in
     let n = code_of c.args.key in
     let planted = last_gone key _ _ _ _ _ _ trees are c.remove.new.self at leaf (there.is ∙ ap (λ (u : Tree). Some u) alone) within c.remove.ensures in
-    let emptied = subst (λ (r : Option Node). AreTrees key self.scale self.forks.items self.spare.items (vec_capacity self.spare) (set self.roots.items at r) c.remove.new.self (set trees at None))
+    let emptied = subst (λ (r : Option Node). AreTrees key self.scale self.forks.items self.spare.items self.spare.capacity (set self.roots.items at r) c.remove.new.self (set trees at None))
     (sym c.empty.ensures) planted in (
       None,
-      subst (λ k. AreTrees key self.scale self.forks.items self.spare.items (vec_capacity self.spare) (set self.roots.items at c.empty.result) c.remove.new.self (set trees k None)) class emptied,
+      subst (λ k. AreTrees key self.scale self.forks.items self.spare.items self.spare.capacity (set self.roots.items at c.empty.result) c.remove.new.self (set trees k None)) class emptied,
       subst (λ (u : Tree). u ≡ tip (near n u)) (sym whole) refl,
     )
 
@@ -107,7 +100,7 @@ returns-in-Branch-clause-leaf c = λ key trees t are is.
     let there = tree_there key _ _ _ _ _ _ trees are at node rooted in
     let same : there.tree ≡ t = same_Some _ _ (sym there.is ∙ ap (tree_at trees) class ∙ is) in
     let laid : Lays (slice_get c.args.self.now.forks.items) 128 node t = subst (Lays (slice_get c.args.self.now.forks.items) 128 node) same there.laid in
-    c.remove-cut.ensures.leaf t (subst (λ (fs : List Fork). Lays (slice_get fs) 128 node t) (sym c.deref_mut.ensures.value) laid)
+    c.remove-cut.ensures.leaf t laid
 
 pub returns-in-Leaf-clause-leaf : goal.returns-in-Leaf-clause-leaf
 returns-in-Leaf-clause-leaf c = λ key trees t are is.

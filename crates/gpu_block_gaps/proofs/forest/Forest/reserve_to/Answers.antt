@@ -1,22 +1,22 @@
-use Rattle.std.proofs.Common.{List, refl, ◌∙◌, sym, subst, vec_capacity, arith}
+use Rattle.std.proofs.Common.{List, refl, ◌∙◌, sym, subst, arith}
 use Rattle.gpu_block_gaps.specs.declared.tree.Fork.{Fork}
 use Rattle.gpu_block_gaps.specs.Forest.{AreTrees}
 use Rattle.gpu_block_gaps.proofs.Rooms.{reserved}
 use Rattle.gpu_block_gaps.proofs.forest.Forest.reserve_to.Goals as goal
 
-pub returns-in_err-reserve_exact-clause-trees : goal.returns-in_err-reserve_exact-clause-trees
-returns-in_err-reserve_exact-clause-trees c = λ at trees are.
+pub returns-in_err-reserve-clause-trees : goal.returns-in_err-reserve-clause-trees
+returns-in_err-reserve-clause-trees c = λ at trees are.
     let w = c.widen.ensures.trees at trees are in
     let v = c.widen.new.self in
-    (w.0, subst (λ (fs : List Fork). AreTrees at v.scale fs v.spare.items (vec_capacity v.spare) v.roots.items v.classes w.0) (sym c.reserve_exact.ensures.items) w.1, w.2)
+    (w.0, subst (λ (fs : List Fork). AreTrees at v.scale fs v.spare.items v.spare.capacity v.roots.items v.classes w.0) (sym c.reserve.ensures.items) w.1, w.2)
 
-pub returns-in_err-reserve_exact-2-clause-trees : goal.returns-in_err-reserve_exact-2-clause-trees
-returns-in_err-reserve_exact-2-clause-trees c = λ at trees are.
+pub returns-in_err-reserve-2-clause-trees : goal.returns-in_err-reserve-2-clause-trees
+returns-in_err-reserve-2-clause-trees c = λ at trees are.
     let w = c.widen.ensures.trees at trees are in
     let v = c.widen.new.self in (
       w.0,
-      reserved at v.scale v.forks.items c.reserve_exact.new.self.items v.spare.items c.reserve_exact-2.new.self.items (vec_capacity v.spare) (vec_capacity c.reserve_exact-2.new.self) v.roots.items v.classes w.0
-          c.reserve_exact.ensures.items c.reserve_exact-2.ensures.items c.reserve_exact-2.ensures.capacity w.1,
+      reserved at v.scale v.forks.items c.reserve.new.self.items v.spare.items c.reserve-2.new.self.items v.spare.capacity c.reserve-2.new.self.capacity v.roots.items v.classes w.0
+          c.reserve.ensures.items c.reserve-2.ensures.items c.reserve-2.ensures.capacity w.1,
       w.2,
     )
 
@@ -25,12 +25,12 @@ loop-self-init c =
     let known = c.requires.forest in
     let w = c.widen.ensures.trees known.0 known.1 known.2 in
     let first = w.1.counted in
-    let room = c.in_ok-reserve_exact.ensures.ok in
-    let spares = c.in_ok-reserve_exact-2.ensures.ok in
+    let room = c.in_ok-reserve.ensures.ok in
+    let spares = c.in_ok-reserve-2.ensures.ok in
     let a = c.saturating_sub.ensures in
     let b = c.saturating_sub-2.ensures in
-    let e = c.reserve_exact.ensures.len in
-    let f = c.reserve_exact-2.ensures.len in
+    let e = c.reserve.ensures.len in
+    let f = c.reserve-2.ensures.len in
     let g = c.len.ensures in
     let h = c.len-2.ensures in
     record { trees = λ at trees are. are; forks = omega arith; spare = omega arith; fewer = omega arith; more = omega arith; others = (refl, refl) }
@@ -60,6 +60,6 @@ pub returns-clause-trees : goal.returns-clause-trees
 returns-clause-trees c = λ at trees are.
     let w = c.widen.ensures.trees at trees are in
     let v = c.widen.new.self in
-    let start = reserved at v.scale v.forks.items c.reserve_exact.new.self.items v.spare.items c.reserve_exact-2.new.self.items (vec_capacity v.spare) (vec_capacity c.reserve_exact-2.new.self) v.roots.items v.classes w.0
-    c.reserve_exact.ensures.items c.reserve_exact-2.ensures.items c.reserve_exact-2.ensures.capacity w.1 in
+    let start = reserved at v.scale v.forks.items c.reserve.new.self.items v.spare.items c.reserve-2.new.self.items v.spare.capacity c.reserve-2.new.self.capacity v.roots.items v.classes w.0
+    c.reserve.ensures.items c.reserve-2.ensures.items c.reserve-2.ensures.capacity w.1 in
     (w.0, c.loop-self.invariant.trees at w.0 start, w.2)

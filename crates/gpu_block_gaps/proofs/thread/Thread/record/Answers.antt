@@ -11,7 +11,7 @@ inside : (c : After-self) → c.args.slot < length c.self.inside.records.items
 inside c = c.self.invariant.inside c.args.slot (subst (IsIn c.args.slot) (sym (ap (λ (t : Threaded). t.order) c.self.view_is)) c.requires)
 
 pub index-requires : goal.index-requires
-index-requires c = let below = inside c in let k = c.self.inside.records.ok in omega arith
+index-requires c = inside c
 
 there : (c : After-index) → c.args.slot < length c.self.inside.records.items
 there c = c.self.invariant.inside c.args.slot (subst (IsIn c.args.slot) (sym (ap (λ (t : Threaded). t.order) c.self.view_is)) c.requires)
