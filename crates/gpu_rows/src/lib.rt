@@ -1,4 +1,4 @@
-//! Rows of a table in pages: a row never moves, and more room never copies one.
+//! Rows of a table in pages: more room copies no row, but those of a first page that is not whole yet.
 #![tactic(auto)]
 
 mod rows;

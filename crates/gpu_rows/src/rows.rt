@@ -1,10 +1,11 @@
-//! Rows in pages of the same length, under a directory.
+//! Rows in pages of the same length, under a directory. The first page's memory grows in steps: a whole page
+//! for a table of a few rows would be mostly empty, and take some 12 kB.
 
-ghost use Rattle.std.specs.Prelude.{◌≡◌, ◌+◌, ◌-◌, ◌*◌, ◌/◌, ◌<◌, ◌≤◌, ◌==◌, ◌↔◌, ℕ, max, [], ◌∷◌, ◌++◌, length, take, IsOk, IsSome, OnOk, OnErr, Some, slice_get, slice_index_or, vec_len, vec_capacity};
+ghost use Rattle.std.specs.Prelude.{◌≡◌, ◌+◌, ◌-◌, ◌*◌, ◌/◌, ◌^◌, ◌<◌, ◌≤◌, ◌==◌, ◌↔◌, ℕ, min, max, [], ◌∷◌, ◌++◌, length, take, IsOk, IsSome, OnOk, OnErr, Some, slice_get, slice_index_or, vec_len, vec_capacity};
 ghost use Rattle.std.specs.Option.{option_copied, option_to_list};
 ghost use Rattle.std.specs.Slice.{IsItemAt};
 ghost use Rattle.std.specs.Borrow.{sem};
-ghost use Rattle.gpu_rows.specs.Rows.{row_count};
+ghost use Rattle.gpu_rows.specs.Rows.{row_count, room_for};
 ghost use Rattle.gpu_rows.specs.Pages.{rows_of, ArePages};
 
 use std::alloc::{AllocError, Global};
@@ -14,14 +15,24 @@ use std::ops::{Index, IndexMut};
 /// How many rows a page has.
 const PAGE: usize = 256;
 
+/// The room that a table of a few rows has, in its first page.
+const FIRST: usize = 16;
+
+/// The room that the first page has before it is whole.
+const SECOND: usize = 64;
+
 /// How many rows there can be at most.
 const MOST: usize = 1 << 62;
 
-/// A table's rows. Room comes in pages, which stay where they are: only the directory of the pages moves as it grows.
+/// A table's rows. Room comes in pages, which stay where they are: as it grows, only the directory of the pages
+/// moves, and the first page until it is whole.
 #[derive(Drop)]
 pub struct Rows<T> {
     pages: Vec<Vec<T>>,
     len: usize,
+
+    // For how many rows there is room. Each push asks for it, so it is kept here and not read in the first page.
+    room: usize,
 }
 
 impl<T> Model for Rows<T> {
@@ -32,9 +43,9 @@ impl<T> Model for Rows<T> {
 
     ghost coded = { rows_code T.code };
 
-    ghost view = { λ r. seen_of r.pages.items };
+    ghost view = { λ r. seen_of r.pages.items r.room };
 
-    ghost invariant = { λ r. AreRows r.pages.items r.len };
+    ghost invariant = { λ r. AreRows r.pages.items r.len r.room };
 }
 
 impl<T> Rows<T> {
@@ -48,6 +59,7 @@ impl<T> Rows<T> {
         Rows {
             pages: Vec::new(alloc),
             len: 0,
+            room: 0,
         }
     }
 
@@ -74,7 +86,7 @@ impl<T> Rows<T> {
         ensures value { result ≡ self.now.capacity }
         ensures fits { row_count self.now ≤ result }
     {
-        self.pages.len() * PAGE
+        self.room
     }
 
     /// Where the memory of the rows comes from.
@@ -82,14 +94,14 @@ impl<T> Rows<T> {
         self.pages.allocator()
     }
 
-    /// Makes room for that many more rows, in whole pages. No row moves. Pages that were taken before a refusal stay.
+    /// Makes room for that many more rows: for 16 rows in all, for 64, and then in whole pages. Only the rows of a
+    /// first page that is not whole move. What was taken before a refusal stays.
     pub fn reserve(&mut self, more: usize) -> Result<(), AllocError>
         ensures items { self.new.items ≡ self.old.items }
         ensures len { row_count self.new ≡ row_count self.old }
         ensures ok { OnOk result (row_count self.new + more ≤ self.new.capacity) }
         ensures capacity { self.old.capacity ≤ self.new.capacity }
-        ensures exact { OnOk result (self.new.capacity
-            ≡ max self.old.capacity (256 * ((row_count self.old + more + 255) / 256))) }
+        ensures exact { OnOk result (self.new.capacity ≡ max self.old.capacity (room_for (row_count self.old + more))) }
         ensures most { self.new.capacity ≤ max self.old.capacity (row_count self.old + more + 255) }
         ensures succeeds { row_count self.old + more ≤ self.old.capacity → IsOk result }
         ensures full { OnErr result (self.old.capacity < row_count self.old + more) }
@@ -100,8 +112,51 @@ impl<T> Rows<T> {
         if more > MOST.saturating_sub(self.len) {
             return Err(AllocError);
         }
-        let count = (self.len + more).div_ceil(PAGE);
-        add_pages(&mut self.pages, count)
+        let room = enough_room(self.len + more);
+        self.grow_first(room.min(PAGE))?;
+        self.grow_whole(room / PAGE)
+    }
+
+    /// Makes the first page's room that much, if it is less. A refusal leaves all as it was.
+    fn grow_first(&mut self, room: usize) -> Result<(), AllocError>
+        requires page { room ≤ 256 }
+        requires step { room_for room ≡ room }
+        ensures items { self.new.items ≡ self.old.items }
+        ensures capacity { self.old.capacity ≤ self.new.capacity }
+        ensures ok { OnOk result (self.new.capacity ≡ max self.old.capacity room) }
+        ensures err { OnErr result (self.new.capacity ≡ self.old.capacity) }
+    {
+        if room <= self.room {
+            return Ok(());
+        }
+        if self.pages.is_empty() {
+            self.pages.reserve(1)?;
+            let page = Vec::with_capacity(*self.pages.allocator(), room)?;
+            self.pages.push_reserved(page);
+            self.room = room;
+            return Ok(());
+        }
+        let first = &mut self.pages[0];
+        first.reserve_exact(room - self.len)?;
+        self.room = room;
+        Ok(())
+    }
+
+    /// Adds pages up to that count, behind a first page that is whole. Pages that were taken before a refusal stay.
+    fn grow_whole(&mut self, count: usize) -> Result<(), AllocError>
+        requires first { min 256 (256 * count) ≤ self.old.capacity }
+        requires few { 256 * count ≤ 2 ^ 63 }
+        ensures items { self.new.items ≡ self.old.items }
+        ensures capacity { self.old.capacity ≤ self.new.capacity }
+        ensures ok { OnOk result (self.new.capacity ≡ max self.old.capacity (256 * count)) }
+        ensures most { self.new.capacity ≤ max self.old.capacity (256 * count) }
+    {
+        if count <= self.pages.len() {
+            return Ok(());
+        }
+        let added = add_pages(&mut self.pages, count);
+        self.room = self.pages.len() * PAGE;
+        added
     }
 
     /// Appends a row. There is room for it, so no memory is taken.
@@ -192,11 +247,26 @@ impl<T> IndexMut<usize> for Rows<T> {
     }
 }
 
-/// Adds empty pages up to that count. Pages that were taken before a refusal stay.
+/// The room to make for so many rows.
+fn enough_room(rows: usize) -> usize
+    requires some { 0 < rows }
+    requires few { rows ≤ 2 ^ 62 }
+    ensures { result ≡ room_for rows }
+{
+    if rows <= FIRST {
+        return FIRST;
+    }
+    if rows <= SECOND {
+        return SECOND;
+    }
+    rows.div_ceil(PAGE) * PAGE
+}
+
+/// Adds empty whole pages up to that count. Pages that were taken before a refusal stay.
 fn add_pages<T>(pages: &mut Vec<Vec<T>>, count: usize) -> Result<(), AllocError>
-    requires pages { ArePages 256 pages.old.items (length (rows_of pages.old.items)) }
+    requires pages { ArePages 256 256 pages.old.items (length (rows_of pages.old.items)) }
     requires more { length pages.old.items ≤ count }
-    ensures pages { ArePages 256 pages.new.items (length (rows_of pages.new.items)) }
+    ensures pages { ArePages 256 256 pages.new.items (length (rows_of pages.new.items)) }
     ensures rows { rows_of pages.new.items ≡ rows_of pages.old.items }
     ensures ok { OnOk result (length pages.new.items ≡ count) }
     ensures kept { length pages.old.items ≤ length pages.new.items }

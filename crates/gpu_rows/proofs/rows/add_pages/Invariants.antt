@@ -4,7 +4,7 @@ use Rattle.gpu_rows.proofs.rows.add_pages.Given as goal
 
 abbrev pub invariant-loop-alloc : goal.invariant-loop-alloc
 invariant-loop-alloc g l = record {
-  paged : ArePages 256 l.pages.items (length (rows_of l.pages.items));
+  paged : ArePages 256 256 l.pages.items (length (rows_of l.pages.items));
   same : rows_of l.pages.items ≡ rows_of l.fn.pages.items;
   kept : length l.fn.pages.items ≤ length l.pages.items;
   few : length l.pages.items ≤ l.count;
