@@ -1,14 +1,21 @@
 -- Cells and their labels as slots.
-use Rattle.std.proofs.Common.{◌≡◌, ℕ, zero, suc, List, [], ◌∷◌, ◌++◌, length, get_or, set, slice_get}
-use Rattle.std.proofs.Common.{Some, None, refl, ap, arith}
+use Rattle.std.proofs.Common.{◌≡◌, ℕ, zero, suc, ◌+◌, ◌≤◌, List, [], ◌∷◌, ◌++◌, length, map, get_or, set, slice_get}
+use Rattle.std.proofs.Common.{Some, None, is_some, refl, ap, arith}
+use Rattle.std.specs.Prelude.{count_by}
+use Rattle.std.proofs.lemmas.List.{length-map}
 use Rattle.gpu_block_chunks.specs.declared.label.Label.{Label}
 use Rattle.gpu_block_chunks.specs.declared.chain.slots.Cell.{Cell}
-use Rattle.gpu_block_chunks.specs.FreeSlots.{Slot, slot_of, slots_of}
+use Rattle.gpu_block_chunks.specs.FreeSlots.{Slot, slot_of, slots_of, chunk_in}
 
 pub length-slots : (cells : List Cell) (labels : List Label) → length labels ≡ length cells → length (slots_of cells labels) ≡ length cells
 length-slots [] labels e = refl
 length-slots (c ∷ cells) [] e = absurd (omega arith)
 length-slots (c ∷ cells) (n ∷ labels) e = ap suc (length-slots cells labels (omega arith))
+
+-- the room for more is in the free slots at least
+pub free_room : (cells : List Cell) (labels : List Label) (live room : ℕ) → length labels ≡ length cells → count_by is_some (map chunk_in (slots_of cells labels)) ≡ live
+    → length (map chunk_in (slots_of cells labels)) ≤ count_by is_some (map chunk_in (slots_of cells labels)) + room → length cells ≤ live + room
+free_room cells labels live room named counted free = omega (arith, length-slots cells labels named, length-map (slots_of cells labels) chunk_in)
 
 -- what a slot is
 pub slot_at : (cells : List Cell) (labels : List Label) (at : ℕ) (c : Cell) (d : Label) → length labels ≡ length cells → slice_get cells at ≡ Some c

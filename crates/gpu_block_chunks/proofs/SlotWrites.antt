@@ -1,5 +1,5 @@
 -- A write in one slot, of its cell, and of its label.
-use Rattle.std.proofs.Common.{◌≡◌, ℕ, ◌+◌, ◌<◌, ◌≤◌, List, [], map, length, get_or, set, slice_get, count_by}
+use Rattle.std.proofs.Common.{◌≡◌, ℕ, ◌+◌, ◌<◌, ◌≤◌, List, map, length, get_or, set, slice_get, count_by}
 use Rattle.std.proofs.Common.{Bool, true, false, Option, Some, None, is_some, IsSome, IsSomeAnd, cond, refl, sym, ap, subst, ◌∙◌, arith}
 use Rattle.std.specs.Option.{option_map}
 use Rattle.std.proofs.lemmas.Bool.{false≢true}

@@ -80,7 +80,7 @@ pub record IsLonger (cs : List Chunk) (chunk_id taken : ℕ) : Type 0 where
 
 -- a block that is one free chunk, with number 1
 abbrev pub IsFresh : List Chunk → ℕ → Type 0
-IsFresh cs size = (label : Label) × (cs ≡ record { start = 0; size = size; offset = 0; kind = Free; chunk_id = 1; label = label } ∷ [])
+IsFresh cs size = cs ≡ record { start = 0; size = size; offset = 0; kind = Free; chunk_id = 1; label = no_label } ∷ []
 
 -- a piece of that size, offset, kind, number and label at the front of a chunk
 abbrev pub front_piece : Chunk → (taken offset : ℕ) → AllocationType → ℕ → Label → Chunk

@@ -23,14 +23,18 @@ const FEW_DIGITS: u32 = 4;
 /// For how many gaps there is room at most: a slot has a number of 30 bits, and slot 0 has no gap.
 const MOST_GAPS: usize = (1 << 30) - 2;
 
-/// For how many gaps more there is room at least, once it grows.
+/// For how many gaps more there is room, once it grows: at least, and at most.
 const LEAST_GROWTH: usize = 4;
 
-/// For how many gaps there is room after it grew. Records are long, so that it grows by a sixteenth, and not to the double.
+const MOST_GROWTH: usize = 256;
+
+/// For how many gaps there is room after it grew. It grows by a sixteenth, so that few places are in vain, and by a page of rows at most, so
+/// that no call makes many.
 fn grown(room: usize) -> usize
     ensures { result + 1 < 2 ^ 30 }
 {
-    MOST_GAPS.min(room.saturating_add(LEAST_GROWTH.max(room / 16)))
+    let more = (room / 16).max(LEAST_GROWTH).min(MOST_GROWTH);
+    MOST_GAPS.min(room.saturating_add(more))
 }
 
 /// How many digits serve that many gaps. Each digit more halves the gaps of a class, and doubles the table of the classes.

@@ -7,6 +7,7 @@ use Rattle.std.proofs.lemmas.List.Kept.{AllPairs-cons}
 use Rattle.gpu_block_chunks.specs.declared.chunk.Chunk.{Chunk}
 use Rattle.gpu_block_chunks.specs.ChunkList.{IsFree, Covers}
 use Rattle.gpu_block_chunks.specs.Chain.{IsFresh}
+use Rattle.gpu_block_chunks.specs.Label.{no_label}
 use Rattle.gpu_block_gaps.specs.declared.index.Gap.{Gap}
 use Rattle.gpu_values.specs.declared.allocation_type.AllocationType.{AllocationType}
 use Rattle.gpu_values.specs.declared.allocation_type.AllocationType.TheVariants.{Free, Linear}
@@ -91,9 +92,9 @@ ordered_block cs size g counter are = record {
 -- those of a block that is one gap
 fresh_are : (cs : List Chunk) (size counter : ℕ) → 0 < size → 2 ≤ counter → IsFresh cs size → AreChunks cs size counter
 fresh_are cs size counter some two fresh =
-    let c : Chunk = record { start = 0; size = size; offset = 0; kind = Free; chunk_id = 1; label = fresh.0 } in
+    let c : Chunk = record { start = 0; size = size; offset = 0; kind = Free; chunk_id = 1; label = no_label } in
     let is : IsChunk counter c = record { after = omega arith; before = omega arith; positive = omega arith; given = omega arith } in
-    subst (λ (xs : List Chunk). AreChunks xs size counter) (sym fresh.1) (record {
+    subst (λ (xs : List Chunk). AreChunks xs size counter) (sym fresh) (record {
       covers = (refl, some, omega arith);
       none_touch = (tt, tt);
       each = All-cons (IsChunk counter) c [] is (All-nil (IsChunk counter));

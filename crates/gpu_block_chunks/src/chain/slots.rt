@@ -11,12 +11,10 @@ use super::link::{LinkedChunk, LinkedView};
 use super::slot_link::SlotLink;
 use crate::chunk::ChunkView;
 use crate::label::{Label, NewLabel};
+use gpu_rows::Rows;
 use gpu_values::AllocationType;
 use std::alloc::{AllocError, Global};
 use std::marker::Model;
-
-/// By how many slots the room grows at least.
-const LEAST_GROWTH: usize = 4;
 
 /// A slot without its label. One that is taken has a chunk; another is free, and its `next` is the next slot that is free.
 #[derive(Clone, Copy)]
@@ -58,14 +56,14 @@ fn parts<'a>(linked: LinkedChunk<'a>) -> (Cell, NewLabel<'a>)
 /// empty, so that the memory of a long one is given back.
 #[derive(Drop)]
 pub struct Slots {
-    cells: Vec<Cell>,
-    labels: Vec<Label>,
+    cells: Rows<Cell>,
+    labels: Rows<Label>,
     free: SlotLink,
     live: usize,
 }
 
 impl Model for Slots {
-    ghost use Rattle.std.specs.Prelude.{◌-◌, map, min, vec_capacity};
+    ghost use Rattle.std.specs.Prelude.{◌-◌, map, min};
     ghost use Rattle.gpu_block_chunks.specs.Slots.{Stored};
     ghost use Rattle.gpu_block_chunks.specs.FreeSlots.{chunk_in, slots_of, AreSlots};
 
@@ -73,7 +71,7 @@ impl Model for Slots {
 
     ghost view = { λ s. record {
       slots = map chunk_in (slots_of s.cells.items s.labels.items);
-      room = min (vec_capacity s.cells) (vec_capacity s.labels) - s.live;
+      room = min s.cells.capacity s.labels.capacity - s.live;
     } };
 
     ghost invariant = { λ s. AreSlots s.cells.items s.labels.items s.live s.free };
@@ -85,18 +83,20 @@ impl Slots {
         ensures empty { IfOk result (λ s. s.slots ≡ []) }
         ensures room { IfOk result (λ s. capacity ≤ s.room) }
     {
-        let labels = Vec::with_capacity(alloc, capacity)?;
-        Ok(Slots {
-            cells: Vec::with_capacity(alloc, capacity)?,
-            labels,
+        let mut slots = Slots {
+            cells: Rows::new(alloc),
+            labels: Rows::new(alloc),
             free: SlotLink::none(),
             live: 0,
-        })
+        };
+        slots.reserve(capacity)?;
+        Ok(slots)
     }
 
-    /// For how many more chunks there is room.
+    /// For how many more chunks there is room: in the free slots at least.
     pub fn room(&self) -> usize
-        ensures { result ≡ self.now.room }
+        ensures value { result ≡ self.now.room }
+        ensures free { length self.now.slots ≤ taken self.now + result }
     {
         self.cells.capacity().min(self.labels.capacity()) - self.live
     }
@@ -115,8 +115,7 @@ impl Slots {
         self.cells.capacity().min(self.labels.capacity())
     }
 
-    /// Makes room for that many more chunks, and for their labels. A refusal changes no slot. Slots are long, so their room grows by a
-    /// sixteenth, and not to the double.
+    /// Makes room for that many more chunks, and for their labels. A refusal changes no slot.
     pub fn reserve(&mut self, more: usize) -> Result<(), AllocError>
         ensures same { self.new.slots ≡ self.old.slots }
         ensures room { OnOk result (more ≤ self.new.room) }
@@ -126,9 +125,8 @@ impl Slots {
             return Ok(());
         }
         let free = self.cells.len() - self.live;
-        let more = more.max(self.live / 16).max(LEAST_GROWTH);
-        self.labels.reserve_exact(more - free)?;
-        self.cells.reserve_exact(more - free)
+        self.labels.reserve(more - free)?;
+        self.cells.reserve(more - free)
     }
 
     /// The chunk in a slot.
@@ -269,6 +267,9 @@ impl Slots {
         ensures length { length self.new.slots ≡ length self.old.slots }
         ensures room { self.new.room ≡ self.old.room + 1 }
     {
+        // reads, so that the proof has room for each slot
+        let _cells = self.cells.len();
+        let _labels = self.labels.len();
         let cell = &mut self.cells[slot];
         cell.taken = false;
         cell.next = self.free;

@@ -12,9 +12,7 @@ invariant_of-result c =
 pub returns : goal.returns
 returns c = (
   refl,
-  (
-    c.empty.result,
-    ap chunks_in (fresh_chain (held_at c.in_ok-nodes.nodes) (held_at c.put.new.self) c.args.size _ c.in_ok-nodes.ensures.none
-        (rw (value_of_new c.in_ok-nodes.nodes.ids c.new.result _ None None None None c.new.ensures.value c.new.ensures.links refl refl) at c.put.ensures.sets) c.requires refl refl refl).1,
-  ),
+  rw (← c.empty.ensures) (
+      ap chunks_in (fresh_chain (held_at c.in_ok-nodes.nodes) (held_at c.put.new.self) c.args.size _ c.in_ok-nodes.ensures.none
+      (rw (value_of_new c.in_ok-nodes.nodes.ids c.new.result _ None None None None c.new.ensures.value c.new.ensures.links refl refl) at c.put.ensures.sets) c.requires refl refl refl).1),
 )

@@ -48,4 +48,6 @@ returns-clause-room c =
     let total = c.self.invariant.sound.total in
     let named = c.self.invariant.named in
     let long = length-slots c.self.inside.cells.items c.self.inside.labels.items named in
+    let cells = c.len-cells.ensures.fits in
+    let labels = c.len-labels.ensures.fits in
     rw (← c.self.view_is) (omega arith)

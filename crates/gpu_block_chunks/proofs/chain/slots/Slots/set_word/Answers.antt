@@ -1,4 +1,4 @@
-use Rattle.std.proofs.Common.{◌≡◌, refl, ap, arith, get_or}
+use Rattle.std.proofs.Common.{◌≡◌, ap, arith, get_or}
 use Rattle.gpu_block_chunks.specs.declared.label.Label.{Label}
 use Rattle.gpu_block_chunks.specs.Label.{no_label}
 use Rattle.gpu_block_chunks.specs.FreeSlots.{chunk_by}
