@@ -2235,8 +2235,8 @@ PILHANGKO_NODISCARD static inline pilhangko_status pilhangko_capture_metal_heaps
 }
 
 /* A committed resource was asked for, as pilhangko_capture_heaps_allocated. The trace makes it as a buffer of whole units of 65,536 bytes. Its
- * name may be any bytes, since no allocator is told it.
- * NO_HANDLE. INVALID: the request. */
+ * alignment and its name may be any, since no allocator is told them.
+ * NO_HANDLE. INVALID: location or category. */
 PILHANGKO_NODISCARD static inline pilhangko_status pilhangko_capture_heaps_committed(pilhangko_capture *capture,
     uint64_t number, const pilhangko_heaps_request *request, const char *name, const pilhangko_capture_answer *answers,
     size_t answer_count) {

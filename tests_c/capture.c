@@ -110,16 +110,17 @@ static void vulkan_rows(void) {
     ends(&c, PILHANGKO_CAPTURE_WHOLE);
 }
 
-/* A committed resource is a buffer of whole units, where 64 bits hold them, by a name of any bytes; a tier above 2 is 2. */
+/* A committed resource is a buffer of whole units, where 64 bits hold them, by a name of any bytes and with any alignment; a tier above 2 is 2. */
 static void d3d12_rows(void) {
     const pilhangko_heaps_request asks[] = {{65536, 4, PILHANGKO_LOCATION_UNKNOWN, PILHANGKO_CATEGORY_BUFFER},
-        {1, 4, PILHANGKO_LOCATION_GPU_ONLY, PILHANGKO_CATEGORY_OTHER_TEXTURE}, {UINT64_MAX, 4, PILHANGKO_LOCATION_GPU_ONLY, PILHANGKO_CATEGORY_BUFFER}};
+        {1, 4, PILHANGKO_LOCATION_GPU_ONLY, PILHANGKO_CATEGORY_OTHER_TEXTURE}, {UINT64_MAX, 4, PILHANGKO_LOCATION_GPU_ONLY, PILHANGKO_CATEGORY_BUFFER},
+        {0, 24, PILHANGKO_LOCATION_GPU_TO_CPU, PILHANGKO_CATEGORY_BUFFER}};
     const pilhangko_capture_answer refused = {true, -2147024882}, granted = {false, 0}, null = {true, 0};
     pilhangko_heaps_settings later = of_d3d12;
     pilhangko_capture c = begun(D3D12);
     IS(pilhangko_capture_heaps_allocated(&c, 1, &d3d12_asks, "t", &granted, 1), OK);
     IS(pilhangko_capture_heaps_committed(&c, 2, &d3d12_asks, "own memory\xff", &refused, 1), OK);
-    for (unsigned i = 0; i < 3; i++) IS(pilhangko_capture_heaps_committed(&c, 2 + i, &asks[i], NULL, NULL, 0), OK);
+    for (unsigned i = 0; i < 4; i++) IS(pilhangko_capture_heaps_committed(&c, 2 + i, &asks[i], NULL, NULL, 0), OK);
     IS(pilhangko_capture_heaps_allocated(&c, 5, &asks[1], "o", &null, 1), OK);
     IS(pilhangko_capture_heaps_moved(&c, 1, 5, &d3d12_asks, "t"), OK);
     IS(pilhangko_capture_released(&c, 2), OK);
@@ -129,6 +130,7 @@ static void d3d12_rows(void) {
                                   "create 2 committed Unknown buffer buffer 65536 1 1 0 state:0 none none _\n"
                                   "create 3 committed GpuOnly texture buffer 65536 1 1 0 state:0 none none _\n"
                                   "create 4 committed GpuOnly buffer buffer 18446744073709551615 1 1 0 state:0 none none _\n"
+                                  "create 5 committed GpuToCpu buffer buffer 0 1 1 0 state:0 none none _\n"
                                   "alloc 5 1 4 GpuOnly texture o\nmove 1 5 65537 65536 CpuToGpu target t\nrelease 2\nfree 1\ndestroy\n");
     ends(&c, PILHANGKO_CAPTURE_WHOLE);
     later.heap_tier = 3;
@@ -264,10 +266,11 @@ static void refuses_vulkan(pilhangko_capture *c, const pilhangko_allocator_reque
     IS(pilhangko_capture_allocator_moved(c, 1, 2, request, name), PILHANGKO_INVALID);
 }
 
-static void refuses_heaps(pilhangko_capture *c, const pilhangko_heaps_request *request, const char *name) {
+/* A committed resource's request needs only its location and its category to be known. */
+static void refuses_heaps(pilhangko_capture *c, const pilhangko_heaps_request *request, const char *name, bool is_named) {
     const pilhangko_capture_answer answer = {true, -2};
     IS(pilhangko_capture_heaps_allocated(c, 1, request, name, &answer, 1), PILHANGKO_INVALID);
-    if (!name) IS(pilhangko_capture_heaps_committed(c, 1, request, name, &answer, 1), PILHANGKO_INVALID);
+    if (!is_named) IS(pilhangko_capture_heaps_committed(c, 1, request, name, &answer, 1), PILHANGKO_INVALID);
     IS(pilhangko_capture_heaps_moved(c, 1, 2, request, name), PILHANGKO_INVALID);
 }
 
@@ -292,7 +295,7 @@ static void invalid_requests(void) {
         if (i == 3) vulkan.location = d3d12.location = metal.location = (pilhangko_location)0;
         if (i == 4) vulkan.location = d3d12.location = metal.location = (pilhangko_location)5;
         refuses_vulkan(&c, &vulkan, NULL);
-        refuses_heaps(&c, &d3d12, NULL);
+        refuses_heaps(&c, &d3d12, NULL, i < 3);
         refuses_metal(&c, &metal, NULL);
     }
     for (unsigned wrong = 0; wrong < 5; wrong += 4) {
@@ -304,10 +307,10 @@ static void invalid_requests(void) {
         vulkan.scheme = (pilhangko_scheme)wrong;
         refuses_vulkan(&c, &vulkan, NULL);
         d3d12.category = (pilhangko_category)wrong;
-        refuses_heaps(&c, &d3d12, NULL);
+        refuses_heaps(&c, &d3d12, NULL, false);
     }
     refuses_vulkan(&c, &valid, "\xff");
-    refuses_heaps(&c, &d3d12_asks, "\xff");
+    refuses_heaps(&c, &d3d12_asks, "\xff", true);
     refuses_metal(&c, &metal_asks, "\xff");
     IS(pilhangko_capture_allocator_allocated(&c, 1, &valid, NULL, &answer, 1), OK);
     is_text(&c, false, VULKAN_LINES "refuse 1 -2\nnew\nalloc 1 100 16 3 Unknown linear managed _\n");

@@ -926,7 +926,7 @@ static struct captured next_captured(bool moves) {
 }
 
 static pilhangko_status captured_status(const struct captured *c) {
-    bool is_valid = c->asks.size && is_power(c->asks.alignment) && c->asks.location <= 4;
+    bool is_valid = c->asks.location <= 4 && (c->api == COMMITTED || (c->asks.size && is_power(c->asks.alignment)));
     if (c->api == OF_VULKAN) is_valid = is_valid && c->asks.kind <= 2 && c->asks.scheme >= 1 && c->asks.scheme <= 3;
     if (c->api == OF_D3D12 || c->api == COMMITTED) is_valid = is_valid && c->asks_heaps.category <= 3;
     return capture_status(is_valid && (c->api == COMMITTED || is_utf8(c->name)) ? PILHANGKO_OK : PILHANGKO_INVALID);

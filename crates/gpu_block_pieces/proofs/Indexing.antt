@@ -12,9 +12,10 @@ use Rattle.gpu_block_gaps.specs.declared.index.Gap.{Gap}
 use Rattle.gpu_values.specs.declared.allocation_type.AllocationType.{AllocationType}
 use Rattle.gpu_values.specs.declared.allocation_type.AllocationType.TheVariants.{Free, Linear, NonLinear}
 use Rattle.gpu_block_chunks.specs.ChunkList.{IsFree, Covers}
+use Rattle.gpu_block_chunks.specs.Label.{no_label}
 use Rattle.gpu_block_pieces.specs.Chunks.{NotBothFree, NoneTouch, last_kind, extents_of}
 use Rattle.gpu_block_gaps.specs.Index.{Before, HasKey, HasKeyAt, HasNoKey, IsRemoved, IsInserted}
-use Rattle.gpu_block_pieces.specs.Indexed.{gap_between, kind_or, gap_first, gaps_between, HasSame, IsGapOf, IsPlaced, ArePlaced}
+use Rattle.gpu_block_pieces.specs.Indexed.{gap_between, kind_or, gap_first, gaps_between, HasSame, IsListed, IsGapOf, IsPlaced, ArePlaced}
 use Rattle.gpu_block_pieces.proofs.Tiling.{around, Covers-le}
 use Rattle.gpu_block_pieces.proofs.Views.{free_or_live, extents-free, extents-live, contains_mid}
 use Rattle.gpu_block_chunks.proofs.Links.{same_test}
@@ -383,3 +384,12 @@ pub placed_all : (cs : List Chunk) (gs : List Gap) (size : ℕ) → Covers cs 0 
 placed_all cs gs size covers lt same = λ k d within.
     let x = get_or gs k d in
     placed_gap cs size x covers lt (gap_of_member cs x (same_member gs (gaps_between Free cs Free) x same (k, within, get_or_default gs k x d within)))
+
+-- the index of a block that is one gap
+pub fresh_listed : (gs hs : List Gap) (size : ℕ) → gs ≡ [] → IsInserted gs (record { length = size; start = 0; chunk_id = 1; before = Free; after = Free }) hs
+    → IsListed (record { start = 0; size = size; offset = 0; kind = Free; chunk_id = 1; label = no_label } ∷ []) hs
+fresh_listed gs hs size none put =
+    let gap : Gap = record { length = size; start = 0; chunk_id = 1; before = Free; after = Free } in record {
+      touch = (tt, tt);
+      same = λ f. omega (arith, inserted_sum gs hs gap put f, ap (sum_by f) none, sum_by-cons f gap []);
+    }

@@ -1,5 +1,5 @@
 -- The numbers of gaps and of pieces, chunk by chunk, and why a new name is refused.
-use Rattle.std.proofs.Common.{◌≡◌, ℕ, List, [], ◌∷◌, ◌||◌, refl, sym, ap, ◌∙◌, subst, eqb, Bool, cond, inl, inr, Option, Some, None, codes}
+use Rattle.std.proofs.Common.{◌≡◌, ℕ, List, [], ◌∷◌, ◌||◌, refl, sym, ap, ◌∙◌, subst, eqb, Bool, inl, inr, Option, Some}
 use Rattle.std.specs.List.{list_any, cons_option}
 use Rattle.std.specs.Int.NonZero.{non_zero_u64_get}
 use Rattle.std.specs.declared.num.NonZeroU64.{NonZeroU64}
@@ -7,8 +7,8 @@ use Rattle.gpu_block_pieces.specs.FreeList.{FreeList, SomeExtent, has_gap_chunk_
 use Rattle.std.specs.Prelude.{Result, Ok, Err, IfErr, IsErrAnd}
 use Rattle.gpu_values.specs.declared.error.AllocationError.{AllocationError}
 use Rattle.gpu_values.specs.declared.error.AllocationError.TheVariants.{HostOutOfMemory}
-use Rattle.gpu_values.specs.Refusal.{Refusal, refusal_of, internal, host_out_of_memory}
-use Rattle.gpu_block_pieces.specs.BlockRefusal.{IsRenameRefusal}
+use Rattle.gpu_values.specs.Refusal.{Refusal, refusal_of, host_out_of_memory}
+use Rattle.gpu_block_pieces.specs.BlockRefusal.{no_piece_fault, IsRenameRefusal}
 use Rattle.gpu_block_chunks.specs.declared.chunk.Chunk.{Chunk}
 use Rattle.gpu_values.specs.declared.allocation_type.AllocationType.{AllocationType}
 use Rattle.gpu_values.specs.declared.allocation_type.AllocationType.TheVariants.{Free, Linear, NonLinear}
@@ -27,12 +27,10 @@ gap_of_chunks n [] = refl
 gap_of_chunks n (c ∷ cs) = one_more c.kind c n (gaps_of cs) ∙ ap (λ b. is_gap_by c.kind n c || b) (gap_of_chunks n cs)
 
 -- why a number that no live piece has is not renamed
-pub rename_none : (b : FreeList) (id : Option NonZeroU64) (n : NonZeroU64) (refusal : Refusal) (t : Bool) → id ≡ Some n → (SomeExtent b (λ x. x.chunk_id ≡ non_zero_u64_get n) → ⊥) → has_gap_chunk_id b
-    (non_zero_u64_get n) ≡ t → refusal ≡ internal (cond t (codes "Attempting to rename a freed allocation.") (codes "Attempting to rename chunk that is not in chunk list.")) None → IsRenameRefusal b
-    id refusal
+pub rename_none : (b : FreeList) (id : Option NonZeroU64) (n : NonZeroU64) (refusal : Refusal) (t : Bool) → id ≡ Some n → (SomeExtent b (λ x. x.chunk_id ≡ non_zero_u64_get n) → ⊥)
+    → has_gap_chunk_id b (non_zero_u64_get n) ≡ t → refusal ≡ no_piece_fault t → IsRenameRefusal b id refusal
 rename_none b id n refusal t is none gap e =
-    subst (λ o. IsRenameRefusal b o refusal) (sym is)
-    (inl (none, e ∙ ap (λ u. internal (cond u (codes "Attempting to rename a freed allocation.") (codes "Attempting to rename chunk that is not in chunk list.")) None) (sym gap)))
+    subst (λ o. IsRenameRefusal b o refusal) (sym is) (inl (none, e ∙ ap (λ u. no_piece_fault u) (sym gap)))
 
 -- a live piece's new name is refused for lack of host memory alone
 pub rename_live : (b : FreeList) (id : Option NonZeroU64) (n : NonZeroU64) (refusal : Refusal) → id ≡ Some n → SomeExtent b (λ x. x.chunk_id ≡ non_zero_u64_get n) → refusal ≡ host_out_of_memory →

@@ -1,5 +1,5 @@
 -- Why a call on a block is refused.
-use Rattle.std.specs.Prelude.{◌≡◌, ◌⊎◌, ℕ, if◌then◌else◌, Option, Some, None, codes}
+use Rattle.std.specs.Prelude.{◌≡◌, ◌⊎◌, ℕ, Bool, if◌then◌else◌, Option, Some, None, codes}
 use Rattle.std.specs.Int.NonZero.{non_zero_u64_get}
 use Rattle.std.specs.declared.num.NonZeroU64.{NonZeroU64}
 use Rattle.gpu_values.specs.declared.error.AllocationError.{AllocationError}
@@ -28,10 +28,12 @@ abbrev pub release_refusal : Option NonZeroU64 → Refusal
 release_refusal None = internal (codes "Chunk ID must be a valid value.") None
 release_refusal (Some _) = internal (codes "Attempting to free chunk that is not in chunk list.") None
 
--- why no piece of that number is renamed: a gap has it, or nothing has it
+-- why no piece of a number is renamed: a gap has it, or nothing has it
+abbrev pub no_piece_fault : (is_gap : Bool) → Refusal
+no_piece_fault is_gap = internal (if is_gap then codes "Attempting to rename a freed allocation." else codes "Attempting to rename chunk that is not in chunk list.") None
+
 abbrev pub rename_fault : FreeList → ℕ → Refusal
-rename_fault b n =
-    internal (if has_gap_chunk_id b n then codes "Attempting to rename a freed allocation." else codes "Attempting to rename chunk that is not in chunk list.") None
+rename_fault b n = no_piece_fault (has_gap_chunk_id b n)
 
 -- why a new name or word is refused: the number is missing, or it is no live piece's, or it is one's and the host's memory was refused, which a word never needs
 abbrev pub IsRenameRefusal : FreeList → Option NonZeroU64 → Refusal → Type 0

@@ -3,7 +3,11 @@
 ghost use Rattle.std.specs.Prelude.{◌≡◌, ◌≢◌, ℕ, ◌+◌, ◌^◌, ◌<◌, ◌≤◌, IfOk, OnOk, OnErr, IfErr, IfSome, IsSomeAnd, IsTrue, ◌↔◌};
 ghost use Rattle.std.specs.Int.{is_power_of_two};
 ghost use Rattle.std.specs.Int.NonZero.{non_zero_u64_get};
+ghost use Rattle.std.specs.List.{list_any};
 ghost use Rattle.gpu_values.specs.Refusal.{refusal_of};
+ghost use Rattle.gpu_cost.specs.Cost.{LooksUp};
+ghost use Rattle.gpu_block_pieces.specs.BlockRefusal.{no_piece_fault};
+ghost use Rattle.gpu_block_pieces.specs.Chunks.{is_gap_by};
 ghost use Rattle.gpu_values.specs.declared.error.AllocationError.TheVariants.{HostOutOfMemory};
 
 use crate::chunks::Chunks;
@@ -194,10 +198,7 @@ impl FreeListAllocator {
             return Err(internal_fault("Chunk ID must be a valid value."));
         };
         let Some(piece) = self.chunks.piece(id.get(), &mut self.cost) else {
-            if self.chunks.has_gap(id.get(), &mut self.cost) {
-                return Err(internal_fault("Attempting to rename a freed allocation."));
-            }
-            return Err(internal_fault("Attempting to rename chunk that is not in chunk list."));
+            return Err(no_piece(&self.chunks, id.get(), &mut self.cost));
         };
         let offset = piece.offset;
         let kind = piece.kind;
@@ -232,10 +233,7 @@ impl FreeListAllocator {
             return Err(internal_fault("Chunk ID must be a valid value."));
         };
         let Some(_piece) = self.chunks.piece(id.get(), &mut self.cost) else {
-            if self.chunks.has_gap(id.get(), &mut self.cost) {
-                return Err(internal_fault("Attempting to rename a freed allocation."));
-            }
-            return Err(internal_fault("Attempting to rename chunk that is not in chunk list."));
+            return Err(no_piece(&self.chunks, id.get(), &mut self.cost));
         };
         self.chunks.set_word(id.get(), word, &mut self.cost);
         Ok(())
@@ -254,6 +252,18 @@ impl FreeListAllocator {
     pub fn alloc(&self) -> Global {
         self.alloc
     }
+}
+
+/// Why nothing can be said anew of the chunk of a number that is no live piece's.
+fn no_piece(chunks: &Chunks, chunk_id: u64, cost: &mut Cost) -> AllocationError
+    ensures value { refusal_of result
+        ≡ no_piece_fault (list_any (λ c. is_gap_by c.kind chunk_id c) chunks.now.items) }
+    ensures counted { LooksUp 1 cost.old cost.new }
+{
+    if chunks.has_gap(chunk_id, cost) {
+        return internal_fault("Attempting to rename a freed allocation.");
+    }
+    internal_fault("Attempting to rename chunk that is not in chunk list.")
 }
 
 /// Whether a piece of that size at the found place leaves a rest of the gap.

@@ -1,21 +1,23 @@
 //! What captures are told of requests and settings, from what C says of them.
 
-ghost use Rattle.std.specs.Prelude.{◌≡◌, ℕ, [], map, IfSome, IfOk, MatchOption, Some};
+ghost use Rattle.std.specs.Prelude.{◌≡◌, ℕ, map, IfSome, IfOk, MatchOption, Some};
 ghost use Rattle.gpu_capture.specs.D3D12.{category_word, committed_words, whole_units};
 ghost use Rattle.gpu_capture.specs.Line.{name_word};
 ghost use Rattle.gpu_capture.specs.Requests.{request_words};
 ghost use Rattle.gpu_capture.specs.declared.request.Request.TheVariants as requests;
 ghost use Rattle.gpu_c.specs.Allocator.{SaysNothing};
 ghost use Rattle.gpu_c.specs.Heaps as heaps;
+ghost use Rattle.gpu_c.specs.Heaps.{AreNamed};
 ghost use Rattle.gpu_c.specs.MetalHeaps as metal_heaps;
 ghost use Rattle.gpu_c.specs.Capture.{allocator_words, category_told, heaps_words, created_words, metal_heaps_words, allocator_sizes, heaps_sizes, metal_heaps_sizes, allocator_lines, BeginsWith};
 
 use crate::allocator_request::{described as allocator_described, memory_types_of};
 use crate::allocator_values::{AllocatorRequest, AllocatorSettings, DeviceHeap, DeviceMemoryType};
-use crate::heaps_request::described as heaps_described;
+use crate::heaps_request::{category_named, described as heaps_described};
 use crate::heaps_values::{HeapsRequest, HeapsSettings};
 use crate::metal_heaps_request::described as metal_heaps_described;
 use crate::metal_heaps_values::{MetalHeapsRequest, MetalHeapsSettings};
+use crate::request::location_named;
 use gpu_capture::{
     BlockSizes, Capture, Category, D3D12Request, MetalRequest, Request, VulkanDevice, VulkanRequest,
 };
@@ -51,27 +53,6 @@ fn category_told(category: ResourceCategory) -> Category
     }
 }
 
-fn d3d12_request<'a>(request: &HeapsRequest, name: &'a [u8]) -> Option<D3D12Request<'a>>
-    ensures unserved { MatchOption result (heaps.IsAsked request.now name.now → ⊥)
-        (λ _. heaps.IsAsked request.now name.now) }
-    ensures words { IfSome result
-        (λ r. heaps_words request.now name.now ≡ Some (request_words (requests.D3D12 r))) }
-    ensures created { IfSome result (λ r. (number : ℕ)
-        → created_words number request.now name.now ≡ Some (committed_words number r.location
-        (category_word r.category) (whole_units r.size) (name_word r.name.now))) }
-{
-    match heaps_described(request, name) {
-        None => None,
-        Some(desc) => Some(D3D12Request {
-            size: desc.size,
-            alignment: desc.alignment,
-            location: desc.location,
-            category: category_told(desc.resource_category),
-            name: desc.name.as_bytes(),
-        }),
-    }
-}
-
 /// A request of the DirectX 12 allocator, where it serves it.
 pub fn heaps_request<'a>(request: &HeapsRequest, name: &'a [u8]) -> Option<Request<'a>>
     ensures unserved { MatchOption result (heaps.IsAsked request.now name.now → ⊥)
@@ -79,29 +60,39 @@ pub fn heaps_request<'a>(request: &HeapsRequest, name: &'a [u8]) -> Option<Reque
     ensures words { IfSome result
         (λ r. heaps_words request.now name.now ≡ Some (request_words r)) }
 {
-    match d3d12_request(request, name) {
+    match heaps_described(request, name) {
         None => None,
-        Some(request) => Some(Request::D3D12(request)),
+        Some(desc) => Some(Request::D3D12(D3D12Request {
+            size: desc.size,
+            alignment: desc.alignment,
+            location: desc.location,
+            category: category_told(desc.resource_category),
+            name: desc.name.as_bytes(),
+        })),
     }
 }
 
-/// A committed resource's request, where the DirectX 12 allocator serves it: it isn't told the name, which may be any bytes.
+/// A committed resource's request, where location and category are known: the allocator isn't told its alignment and its name, which may be
+/// any bytes.
 pub fn committed_request<'a>(request: &HeapsRequest, name: &'a [u8]) -> Option<D3D12Request<'a>>
-    ensures unserved { MatchOption result (heaps.IsAsked request.now [] → ⊥)
-        (λ _. heaps.IsAsked request.now []) }
+    ensures unserved { MatchOption result (AreNamed request.now.location request.now.category → ⊥)
+        (λ _. AreNamed request.now.location request.now.category) }
     ensures created { IfSome result (λ r. (number : ℕ)
         → created_words number request.now name.now ≡ Some (committed_words number r.location
         (category_word r.category) (whole_units r.size) (name_word r.name.now))) }
 {
-    match d3d12_request(request, &[]) {
+    match location_named(request.location) {
         None => None,
-        Some(asked) => Some(D3D12Request {
-            size: asked.size,
-            alignment: asked.alignment,
-            location: asked.location,
-            category: asked.category,
-            name,
-        }),
+        Some(location) => match category_named(request.category) {
+            None => None,
+            Some(category) => Some(D3D12Request {
+                size: request.size,
+                alignment: request.alignment,
+                location,
+                category: category_told(category),
+                name,
+            }),
+        },
     }
 }
 

@@ -8,6 +8,7 @@ ghost use Rattle.gpu_c.specs.Allocator.{SaysNothing};
 ghost use Rattle.gpu_c.specs.Capture.{KeepsAsked, allocator_words, heaps_words, created_words, metal_heaps_words};
 ghost use Rattle.gpu_c.specs.Handle.{Changes};
 ghost use Rattle.gpu_c.specs.Heaps as heaps;
+ghost use Rattle.gpu_c.specs.Heaps.{AreNamed};
 ghost use Rattle.gpu_c.specs.MetalHeaps as metal_heaps;
 ghost use Rattle.gpu_c.specs.Status as status;
 ghost use Rattle.gpu_c.specs.Status.{IsOneOf};
@@ -117,7 +118,8 @@ pub extern "C" fn pilhangko_raw_capture_metal_heaps_allocated(
 }
 
 /// A committed resource was asked for, which is called by this number, and the device answered its question so. A trace makes it as a buffer of
-/// whole units of 65,536 bytes. Its name may be any bytes, since no allocator is told it. `INVALID` where none serves the request.
+/// whole units of 65,536 bytes. Its alignment and its name may be any, since no allocator is told them. `INVALID` where location or category
+/// isn't one.
 #[unsafe(no_mangle)]
 pub extern "C" fn pilhangko_raw_capture_heaps_committed(
     capture: &mut CaptureHandle,
@@ -132,7 +134,8 @@ pub extern "C" fn pilhangko_raw_capture_heaps_committed(
         (created_words number request.now name.now) answers.now new) }
     ensures no_handle { (result ≡ status.no_handle) ↔ (capture.old.value ≡ None) }
     ensures invalid { (result ≡ status.invalid)
-        ↔ IsSomeAnd capture.old.value (λ _. heaps.IsAsked request.now [] → ⊥) }
+        ↔ IsSomeAnd capture.old.value
+        (λ _. AreNamed request.now.location request.now.category → ⊥) }
     ensures statuses { IsOneOf result (status.ok ∷ status.no_handle ∷ status.invalid ∷ []) }
     ensures refused { result ≢ status.ok → capture.new.value ≡ capture.old.value }
 {

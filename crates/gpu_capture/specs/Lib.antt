@@ -9,3 +9,4 @@ pub mod D3D12
 pub mod Metal
 pub mod Requests
 pub mod Devices
+pub mod History

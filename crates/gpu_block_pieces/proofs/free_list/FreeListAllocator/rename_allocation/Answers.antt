@@ -1,13 +1,15 @@
-use Rattle.std.proofs.Common.{◌≡◌, length, refl, sym, ap, ◌∙◌, subst, arith, true, false}
+use Rattle.std.proofs.Common.{◌≡◌, length, refl, sym, ap, ◌∙◌, subst, arith}
 use Rattle.std.specs.Prelude.{IsSomeAnd}
 use Rattle.std.specs.Int.NonZero.{non_zero_u64_get}
 use Rattle.gpu_cost.specs.Cost.{counts_of}
+use Rattle.std.specs.List.{list_any}
+use Rattle.gpu_block_chunks.specs.declared.chunk.Chunk.{Chunk}
 use Rattle.gpu_block_chunks.specs.ChunkList.{chunk_of}
 use Rattle.gpu_block_chunks.specs.Label.{with_name}
 use Rattle.gpu_block_pieces.specs.FreeList.{Counted}
 use Rattle.gpu_block_pieces.specs.Changes.{named, Renames}
 use Rattle.gpu_block_pieces.specs.Search.{LooksUpTo}
-use Rattle.gpu_block_pieces.specs.Chunks.{HoldsChunkId, free_list_of}
+use Rattle.gpu_block_pieces.specs.Chunks.{HoldsChunkId, free_list_of, is_gap_by}
 use Rattle.gpu_values.specs.Refusal.{host_out_of_memory}
 use Rattle.gpu_block_pieces.proofs.Sound.{sound_block}
 use Rattle.gpu_block_pieces.proofs.Ordered.{ordered_block}
@@ -19,7 +21,7 @@ use Rattle.gpu_block_pieces.proofs.Amounts.{bytes_of, labelled_bytes}
 use Rattle.gpu_block_pieces.proofs.FoundByChunkId.{held_at}
 use Rattle.gpu_block_pieces.proofs.Counting.{looked_up, just, both, rises}
 use Rattle.gpu_block_pieces.proofs.free_list.FreeListAllocator.rename_allocation.Goals as goal
-use Rattle.gpu_block_pieces.proofs.free_list.FreeListAllocator.rename_allocation.Goals.{After-rename, After-has_gap, In-Some-piece}
+use Rattle.gpu_block_pieces.proofs.free_list.FreeListAllocator.rename_allocation.Goals.{After-rename, After-no_piece, In-Some-piece}
 
 the_rename : (c : After-rename) → Relabelled c.self.inside.chunks.size c.self.inside.granularity c.self.inside.counter c.self.inside.chunks.items c.rename.new.self.items
     (non_zero_u64_get c.in-Some.id) (named c.args.name.now)
@@ -74,25 +76,16 @@ returns-clause-separated c =
 
 -- ---- the refusals
 
-pub returns-then-has_gap-clause-cause : goal.returns-then-has_gap-clause-cause
-returns-then-has_gap-clause-cause c =
-    let i = c.self.inside in
-    let n = non_zero_u64_get c.in-Some.id in
-    rename_none c.args.self.now.block c.args.chunk_id c.in-Some.id _ true c.in-Some.is
-    (none_in_view i.chunks.size i.granularity i.counter i.chunks.items i.chunks.items c.args.self.now.block n c.get.result (ap (λ (v : Counted). v.block) c.self.view_is) refl c.get.ensures.value c.in_default-piece.ensures.piece)
-    (gap_told i.chunks.size i.granularity i.counter i.chunks.items i.chunks.items c.args.self.now.block n c.get-in_default-piece.result c.has_gap.result (ap (λ (v : Counted). v.block) c.self.view_is) refl
-    c.get-in_default-piece.ensures.value c.has_gap.ensures.gap ∙ c.if-has_gap.true)
-    c.internal_fault-then-has_gap.ensures
-
 pub returns-in_default-piece-clause-cause : goal.returns-in_default-piece-clause-cause
 returns-in_default-piece-clause-cause c =
     let i = c.self.inside in
     let n = non_zero_u64_get c.in-Some.id in
-    rename_none c.args.self.now.block c.args.chunk_id c.in-Some.id _ false c.in-Some.is
+    let is_gap = list_any (λ (x : Chunk). is_gap_by x.kind c.get-in_default-piece.result x) i.chunks.items in
+    rename_none c.args.self.now.block c.args.chunk_id c.in-Some.id _ is_gap c.in-Some.is
     (none_in_view i.chunks.size i.granularity i.counter i.chunks.items i.chunks.items c.args.self.now.block n c.get.result (ap (λ (v : Counted). v.block) c.self.view_is) refl c.get.ensures.value c.in_default-piece.ensures.piece)
-    (gap_told i.chunks.size i.granularity i.counter i.chunks.items i.chunks.items c.args.self.now.block n c.get-in_default-piece.result c.has_gap.result (ap (λ (v : Counted). v.block) c.self.view_is) refl
-    c.get-in_default-piece.ensures.value c.has_gap.ensures.gap ∙ c.if-has_gap.false)
-    c.internal_fault-in_default-piece.ensures
+    (gap_told i.chunks.size i.granularity i.counter i.chunks.items i.chunks.items c.args.self.now.block n c.get-in_default-piece.result is_gap (ap (λ (v : Counted). v.block) c.self.view_is) refl
+    c.get-in_default-piece.ensures.value refl)
+    c.no_piece.ensures.value
 
 pub returns-in_err-new_name-clause-cause : goal.returns-in_err-new_name-clause-cause
 returns-in_err-new_name-clause-cause c =
@@ -133,12 +126,12 @@ returns-clause-ordered c =
 
 -- ---- what it looks up
 
-gap_told_by : (c : After-has_gap) → LooksUpTo 2 c.args.self.now.cost (counts_of c.has_gap.new.cost)
+gap_told_by : (c : After-no_piece) → LooksUpTo 2 c.args.self.now.cost (counts_of c.no_piece.new.cost)
 gap_told_by c =
     let i = c.self.inside in
-    looked_up 2 2 2 i.cost c.has_gap.new.cost c.args.self.now.cost (ap (λ (v : Counted). v.cost) c.self.view_is) (omega arith)
-    (both 1 1 1 1 i.cost c.piece.new.cost c.has_gap.new.cost (just 1 i.cost c.piece.new.cost c.in_default-piece.ensures.counted)
-    (just 1 c.piece.new.cost c.has_gap.new.cost c.has_gap.ensures.counted))
+    looked_up 2 2 2 i.cost c.no_piece.new.cost c.args.self.now.cost (ap (λ (v : Counted). v.cost) c.self.view_is) (omega arith)
+    (both 1 1 1 1 i.cost c.piece.new.cost c.no_piece.new.cost (just 1 i.cost c.piece.new.cost c.in_default-piece.ensures.counted)
+    (just 1 c.piece.new.cost c.no_piece.new.cost c.no_piece.ensures.counted))
 
 piece_told_by : (c : In-Some-piece) → LooksUpTo 2 c.args.self.now.cost (counts_of c.piece.new.cost)
 piece_told_by c =
@@ -152,17 +145,11 @@ named_by c =
     (both 1 1 1 1 i.cost c.piece.new.cost c.rename.new.cost (just 1 i.cost c.piece.new.cost c.in-Some-piece.ensures.counted)
     (just 1 c.piece.new.cost c.rename.new.cost c.rename.ensures.counted))
 
-pub returns-then-has_gap-clause-lookups : goal.returns-then-has_gap-clause-lookups
-returns-then-has_gap-clause-lookups c = gap_told_by ((goal.at.returns-then-has_gap-clause-lookups c).After-has_gap)
-
-pub returns-then-has_gap-clause-cost : goal.returns-then-has_gap-clause-cost
-returns-then-has_gap-clause-cost c = rises 2 _ _ (gap_told_by ((goal.at.returns-then-has_gap-clause-cost c).After-has_gap))
-
 pub returns-in_default-piece-clause-lookups : goal.returns-in_default-piece-clause-lookups
-returns-in_default-piece-clause-lookups c = gap_told_by ((goal.at.returns-in_default-piece-clause-lookups c).After-has_gap)
+returns-in_default-piece-clause-lookups c = gap_told_by ((goal.at.returns-in_default-piece-clause-lookups c).After-no_piece)
 
 pub returns-in_default-piece-clause-cost : goal.returns-in_default-piece-clause-cost
-returns-in_default-piece-clause-cost c = rises 2 _ _ (gap_told_by ((goal.at.returns-in_default-piece-clause-cost c).After-has_gap))
+returns-in_default-piece-clause-cost c = rises 2 _ _ (gap_told_by ((goal.at.returns-in_default-piece-clause-cost c).After-no_piece))
 
 pub returns-in_err-new_name-clause-lookups : goal.returns-in_err-new_name-clause-lookups
 returns-in_err-new_name-clause-lookups c = piece_told_by ((goal.at.returns-in_err-new_name-clause-lookups c).In-Some-piece)
