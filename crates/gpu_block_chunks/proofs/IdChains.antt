@@ -1,5 +1,5 @@
 -- Links from id to id of a chain, after an id is put into a slot or taken out of one.
-use Rattle.std.proofs.Common.{◌≡◌, ◌≢◌, ℕ, ◌%◌, ◌<◌, ◌≤◌, List, length, set, Option, Some, None, refl, sym, ap, ◌∙◌, subst, ◌⊎◌, inl, inr, arith}
+use Rattle.std.proofs.Common.{◌≡◌, ◌≢◌, ℕ, ◌<◌, ◌≤◌, List, length, set, Option, Some, None, refl, sym, ap, ◌∙◌, subst, ◌⊎◌, inl, inr, arith}
 use Rattle.std.proofs.lemmas.Bool.{cases_eq, cases_lt}
 use Rattle.std.proofs.lemmas.Option.{same_Some}
 use Rattle.std.proofs.lemmas.List.{get_or-set_same, get_or-set_other}
@@ -154,15 +154,15 @@ module _ (ids : List (Option ℕ)) (s k : ℕ) (there : id_at ids s ≡ Some k) 
           }
 
 -- ---- two links of one chain
-module _ (ids : List (Option ℕ)) (chains : ℕ) (link : ℕ → Option ℕ → Option ℕ) (linked : AreLinked ids chains link)
+module _ (ids : List (Option ℕ)) (chain_of : ℕ → ℕ) (chains : ℕ) (link : ℕ → Option ℕ → Option ℕ) (linked : AreLinked ids chain_of chains link)
     (distinct : (s t k : ℕ) → id_at ids s ≡ Some k → id_at ids t ≡ Some k → s ≡ t) (chain : ℕ) (inside : chain < chains) where
   -- the id of a slot is below that of another
   under : (q n m : ℕ) → id_at ids q ≡ Some n → m < n → IsBelow ids (Some q) m
   under q n m at less = λ top e. let one = same_id ids q top n e at in omega arith
 
   -- where one has the place of an id, another one above that leads past it
-  past : (before p : Option ℕ) (k : ℕ) → p ≢ before → IsOf ids chains chain before → IsBelow ids before k → NoneAbove ids (link chain before) k → IsOf ids chains chain p → IsBelow ids p k
-      → Reached ids (λ m. (m % chains ≡ chain) × IsBelow ids p m) (link chain p) k
+  past : (before p : Option ℕ) (k : ℕ) → p ≢ before → IsOf ids chain_of chain before → IsBelow ids before k → NoneAbove ids (link chain before) k → IsOf ids chain_of chain p → IsBelow ids p k
+      → Reached ids (λ m. (chain_of m ≡ chain) × IsBelow ids p m) (link chain p) k
   past None None k ne of below none of' below' = absurd (ne refl)
   past (Some q) None k ne of below none of' below' =
       let less = below of.0 of.1 in
@@ -178,13 +178,13 @@ module _ (ids : List (Option ℕ)) (chains : ℕ) (link : ℕ → Option ℕ →
   past (Some q) (Some p) k ne of below none of' below' =
       let less = below of.0 of.1 in
       let less' = below' of'.0 of'.1 in
-      elim (cases_lt of.0 of'.0) as (λ _. Reached ids (λ m. (m % chains ≡ chain) × IsBelow ids (Some p) m) (link chain (Some p)) k) [
+      elim (cases_lt of.0 of'.0) as (λ _. Reached ids (λ m. (chain_of m ≡ chain) × IsBelow ids (Some p) m) (link chain (Some p)) k) [
         | inl lt ↦
             let r = reach ids _ (link chain (Some p)) (linked chain (Some p) inside of') q of.0 of.1 (of.2, under p of'.0 of.0 of'.1 lt) in
             let more = r.no_less in
             record { slot = r.slot; id = r.id; leads = r.leads; at = r.at; holds = r.holds; no_less = omega arith }
         | inr ge ↦
-            elim (cases_eq of.0 of'.0) as (λ _. Reached ids (λ m. (m % chains ≡ chain) × IsBelow ids (Some p) m) (link chain (Some p)) k) [
+            elim (cases_eq of.0 of'.0) as (λ _. Reached ids (λ m. (chain_of m ≡ chain) × IsBelow ids (Some p) m) (link chain (Some p)) k) [
               | inl is ↦ absurd (ne (ap (λ (u : ℕ). Some u) (distinct p q of.0 (of'.1 ∙ ap (λ (u : ℕ). Some u) (sym is)) of.1)))
               | inr differs ↦
                   let r = reach ids _ (link chain (Some q)) (linked chain (Some q) inside of) p of'.0 of'.1 (of'.2, under q of.0 of'.0 of.1 (omega arith)) in
@@ -195,8 +195,8 @@ module _ (ids : List (Option ℕ)) (chains : ℕ) (link : ℕ → Option ℕ →
       ]
 
   -- one link alone leads to a slot
-  only : (before p : Option ℕ) (s k : ℕ) → id_at ids s ≡ Some k → IsOf ids chains chain before → HasGreatest ids (λ m. (m % chains ≡ chain) × IsBelow ids before m) s
-      → IsOf ids chains chain p → HasGreatest ids (λ m. (m % chains ≡ chain) × IsBelow ids p m) s → p ≡ before
+  only : (before p : Option ℕ) (s k : ℕ) → id_at ids s ≡ Some k → IsOf ids chain_of chain before → HasGreatest ids (λ m. (chain_of m ≡ chain) × IsBelow ids before m) s
+      → IsOf ids chain_of chain p → HasGreatest ids (λ m. (chain_of m ≡ chain) × IsBelow ids p m) s → p ≡ before
   only None None s k at of has of' has' = refl
   only (Some q) None s k at of has of' has' =
       let mine = same_id ids s has.id k has.at at in
@@ -225,11 +225,11 @@ module _ (ids : List (Option ℕ)) (chains : ℕ) (link : ℕ → Option ℕ →
       ]
 
 -- ---- all links, after one was made to lead to a new id
-module _ (ids : List (Option ℕ)) (chains : ℕ) (link new : ℕ → Option ℕ → Option ℕ) (linked : AreLinked ids chains link)
+module _ (ids : List (Option ℕ)) (chain_of : ℕ → ℕ) (chains : ℕ) (link new : ℕ → Option ℕ → Option ℕ) (linked : AreLinked ids chain_of chains link)
     (distinct : (s t k : ℕ) → id_at ids s ≡ Some k → id_at ids t ≡ Some k → s ≡ t) (s k : ℕ) (before : Option ℕ) where
   -- the place of the id, seen from a chain that is its own
   pub record Place (chain : ℕ) : Type 0 where
-    pub inside : IsOf ids chains chain before
+    pub inside : IsOf ids chain_of chain before
     pub below : IsBelow ids before k
     pub last : NoneAbove ids (link chain before) k
 
@@ -240,61 +240,61 @@ module _ (ids : List (Option ℕ)) (chains : ℕ) (link new : ℕ → Option ℕ
   same_before p None = inr (λ (e : Some p ≡ None). cc)
   same_before p (Some q) = elim (cases_eq p q) as (λ _. (Some p ≡ Some q) ⊎ (Some p ≢ Some q)) [ inl is ↦ inl (ap (λ (u : ℕ). Some u) is) | inr ne ↦ inr (some_other p q ne) ]
 
-  module _ (within : s < length ids) (vacant : id_at ids s ≡ None) (absent : (t : ℕ) → id_at ids t ≢ Some k) (place : Place (k % chains))
-      (first : new (k % chains) before ≡ Some s) (rest : (chain : ℕ) → new chain (Some s) ≡ link (k % chains) before)
-      (others : (chain : ℕ) (p : Option ℕ) → p ≢ before → p ≢ Some s → new chain p ≡ link chain p) (heads : (chain : ℕ) → chain ≢ k % chains → new chain None ≡ link chain None) where
-    put_other : (chain : ℕ) (p : Option ℕ) → chain < chains → IsOf ids chains chain p → (k % chains ≡ chain → p ≢ before)
-        → LeadsTo (set ids s (Some k)) (λ m. (m % chains ≡ chain) × IsBelow ids p m) (link chain p)
+  module _ (within : s < length ids) (vacant : id_at ids s ≡ None) (absent : (t : ℕ) → id_at ids t ≢ Some k) (place : Place (chain_of k))
+      (first : new (chain_of k) before ≡ Some s) (rest : (chain : ℕ) → new chain (Some s) ≡ link (chain_of k) before)
+      (others : (chain : ℕ) (p : Option ℕ) → p ≢ before → p ≢ Some s → new chain p ≡ link chain p) (heads : (chain : ℕ) → chain ≢ chain_of k → new chain None ≡ link chain None) where
+    put_other : (chain : ℕ) (p : Option ℕ) → chain < chains → IsOf ids chain_of chain p → (chain_of k ≡ chain → p ≢ before)
+        → LeadsTo (set ids s (Some k)) (λ m. (chain_of m ≡ chain) × IsBelow ids p m) (link chain p)
     put_other chain p lt of' ne =
-        put_past ids s k within vacant (λ m. (m % chains ≡ chain) × IsBelow ids p m) (link chain p) (linked chain p lt of') (λ holds.
+        put_past ids s k within vacant (λ m. (chain_of m ≡ chain) × IsBelow ids p m) (link chain p) (linked chain p lt of') (λ holds.
         let here = subst Place holds.0 place in
-        past ids chains link linked distinct chain lt before p k (ne holds.0) here.inside here.below here.last of' holds.1)
+        past ids chain_of chains link linked distinct chain lt before p k (ne holds.0) here.inside here.below here.last of' holds.1)
 
-    put_here : (chain : ℕ) → chain < chains → k % chains ≡ chain → LeadsTo (set ids s (Some k)) (λ m. (m % chains ≡ chain) × IsBelow ids before m) (Some s)
+    put_here : (chain : ℕ) → chain < chains → chain_of k ≡ chain → LeadsTo (set ids s (Some k)) (λ m. (chain_of m ≡ chain) × IsBelow ids before m) (Some s)
     put_here chain lt is =
         let here = subst Place is place in
-        put_first ids s k within vacant (λ m. (m % chains ≡ chain) × IsBelow ids before m) (link chain before) (linked chain before lt here.inside) (is, here.below) here.last
+        put_first ids s k within vacant (λ m. (chain_of m ≡ chain) × IsBelow ids before m) (link chain before) (linked chain before lt here.inside) (is, here.below) here.last
 
-    put_head : (chain : ℕ) → chain < chains → (other : Option ℕ) → before ≡ other → LeadsTo (set ids s (Some k)) (λ m. (m % chains ≡ chain) × Unit {0}) (new chain None)
+    put_head : (chain : ℕ) → chain < chains → (other : Option ℕ) → before ≡ other → LeadsTo (set ids s (Some k)) (λ m. (chain_of m ≡ chain) × Unit {0}) (new chain None)
     put_head chain lt None is =
-        elim (cases_eq chain (k % chains)) as (λ _. LeadsTo (set ids s (Some k)) (λ m. (m % chains ≡ chain) × Unit {0}) (new chain None)) [
+        elim (cases_eq chain (chain_of k)) as (λ _. LeadsTo (set ids s (Some k)) (λ m. (chain_of m ≡ chain) × Unit {0}) (new chain None)) [
           | inl same ↦
-              let lead : new chain None ≡ Some s = ap (λ (c : ℕ). new c None) same ∙ ap (new (k % chains)) (sym is) ∙ first in
-              subst (LeadsTo (set ids s (Some k)) (λ m. (m % chains ≡ chain) × Unit {0})) (sym lead)
-              (subst (λ (o : Option ℕ). LeadsTo (set ids s (Some k)) (λ m. (m % chains ≡ chain) × IsBelow ids o m) (Some s)) is (put_here chain lt (sym same)))
+              let lead : new chain None ≡ Some s = ap (λ (c : ℕ). new c None) same ∙ ap (new (chain_of k)) (sym is) ∙ first in
+              subst (LeadsTo (set ids s (Some k)) (λ m. (chain_of m ≡ chain) × Unit {0})) (sym lead)
+              (subst (λ (o : Option ℕ). LeadsTo (set ids s (Some k)) (λ m. (chain_of m ≡ chain) × IsBelow ids o m) (Some s)) is (put_here chain lt (sym same)))
           | inr differs ↦
-              subst (LeadsTo (set ids s (Some k)) (λ m. (m % chains ≡ chain) × Unit {0})) (sym (heads chain differs)) (put_other chain None lt tt (λ same. absurd (differs (sym same))))
+              subst (LeadsTo (set ids s (Some k)) (λ m. (chain_of m ≡ chain) × Unit {0})) (sym (heads chain differs)) (put_other chain None lt tt (λ same. absurd (differs (sym same))))
         ]
     put_head chain lt (Some q) is =
         let ne : None ≢ before = λ (e : None ≡ before). let no : None ≡ Some q = e ∙ is in cc in
-        subst (LeadsTo (set ids s (Some k)) (λ m. (m % chains ≡ chain) × Unit {0})) (sym (others chain None ne (λ (e : None ≡ Some s). cc))) (put_other chain None lt tt (λ same. ne))
+        subst (LeadsTo (set ids s (Some k)) (λ m. (chain_of m ≡ chain) × Unit {0})) (sym (others chain None ne (λ (e : None ≡ Some s). cc))) (put_other chain None lt tt (λ same. ne))
 
-    put_slot : (chain p : ℕ) → chain < chains → IsOf (set ids s (Some k)) chains chain (Some p) → p ≢ s
-        → LeadsTo (set ids s (Some k)) (λ m. (m % chains ≡ chain) × IsBelow ids (Some p) m) (new chain (Some p))
+    put_slot : (chain p : ℕ) → chain < chains → IsOf (set ids s (Some k)) chain_of chain (Some p) → p ≢ s
+        → LeadsTo (set ids s (Some k)) (λ m. (chain_of m ≡ chain) × IsBelow ids (Some p) m) (new chain (Some p))
     put_slot chain p lt of' ne =
         let at = sym (get_or-set_other ids s p (Some k) None ne) ∙ of'.1 in
-        elim (same_before p before) as (λ _. LeadsTo (set ids s (Some k)) (λ m. (m % chains ≡ chain) × IsBelow ids (Some p) m) (new chain (Some p))) [
+        elim (same_before p before) as (λ _. LeadsTo (set ids s (Some k)) (λ m. (chain_of m ≡ chain) × IsBelow ids (Some p) m) (new chain (Some p))) [
           | inl is ↦
-              let mine = subst (λ (o : Option ℕ). IsOf ids chains (k % chains) o) (sym is) place.inside in
+              let mine = subst (λ (o : Option ℕ). IsOf ids chain_of (chain_of k) o) (sym is) place.inside in
               let one = same_id ids p mine.0 of'.0 mine.1 at in
-              let same : k % chains ≡ chain = sym mine.2 ∙ ap (λ (u : ℕ). u % chains) one ∙ of'.2 in
-              let lead : new chain (Some p) ≡ Some s = ap (λ (c : ℕ). new c (Some p)) (sym same) ∙ ap (new (k % chains)) is ∙ first in
-              subst (LeadsTo (set ids s (Some k)) (λ m. (m % chains ≡ chain) × IsBelow ids (Some p) m)) (sym lead)
-              (subst (λ (o : Option ℕ). LeadsTo (set ids s (Some k)) (λ m. (m % chains ≡ chain) × IsBelow ids o m) (Some s)) (sym is) (put_here chain lt same))
+              let same : chain_of k ≡ chain = sym mine.2 ∙ ap (λ (u : ℕ). chain_of u) one ∙ of'.2 in
+              let lead : new chain (Some p) ≡ Some s = ap (λ (c : ℕ). new c (Some p)) (sym same) ∙ ap (new (chain_of k)) is ∙ first in
+              subst (LeadsTo (set ids s (Some k)) (λ m. (chain_of m ≡ chain) × IsBelow ids (Some p) m)) (sym lead)
+              (subst (λ (o : Option ℕ). LeadsTo (set ids s (Some k)) (λ m. (chain_of m ≡ chain) × IsBelow ids o m) (Some s)) (sym is) (put_here chain lt same))
           | inr differs ↦
-              subst (LeadsTo (set ids s (Some k)) (λ m. (m % chains ≡ chain) × IsBelow ids (Some p) m)) (sym (others chain (Some p) differs (some_other p s ne)))
+              subst (LeadsTo (set ids s (Some k)) (λ m. (chain_of m ≡ chain) × IsBelow ids (Some p) m)) (sym (others chain (Some p) differs (some_other p s ne)))
               (put_other chain (Some p) lt (of'.0, at, of'.2) (λ same. differs))
         ]
 
-    put_after : (chain : ℕ) → chain < chains → IsOf (set ids s (Some k)) chains chain (Some s)
-        → LeadsTo (set ids s (Some k)) (λ m. (m % chains ≡ chain) × IsBelow (set ids s (Some k)) (Some s) m) (new chain (Some s))
+    put_after : (chain : ℕ) → chain < chains → IsOf (set ids s (Some k)) chain_of chain (Some s)
+        → LeadsTo (set ids s (Some k)) (λ m. (chain_of m ≡ chain) × IsBelow (set ids s (Some k)) (Some s) m) (new chain (Some s))
     put_after chain lt of' =
         let mine = same_id (set ids s (Some k)) s of'.0 k of'.1 (here ids s k within vacant) in
-        let same : k % chains ≡ chain = ap (λ (u : ℕ). u % chains) (sym mine) ∙ of'.2 in
+        let same : chain_of k ≡ chain = ap (λ (u : ℕ). chain_of u) (sym mine) ∙ of'.2 in
         let at = subst Place same place in
         let lead : new chain (Some s) ≡ link chain before = rest chain ∙ ap (λ (c : ℕ). link c before) same in
-        subst (LeadsTo (set ids s (Some k)) (λ m. (m % chains ≡ chain) × IsBelow (set ids s (Some k)) (Some s) m)) (sym lead)
-        (put_rest ids s k within vacant (λ m. (m % chains ≡ chain) × IsBelow ids before m) (λ m. (m % chains ≡ chain) × IsBelow (set ids s (Some k)) (Some s) m) (link chain before)
+        subst (LeadsTo (set ids s (Some k)) (λ m. (chain_of m ≡ chain) × IsBelow (set ids s (Some k)) (Some s) m)) (sym lead)
+        (put_rest ids s k within vacant (λ m. (chain_of m ≡ chain) × IsBelow ids before m) (λ m. (chain_of m ≡ chain) × IsBelow (set ids s (Some k)) (Some s) m) (link chain before)
         (linked chain before lt at.inside) at.last absent
         (λ m q. ((q.0, lower before at.below m (q.1 k (here ids s k within vacant))), q.1 k (here ids s k within vacant)))
         (λ m holds less. (holds.0, λ top e. let one = same_id (set ids s (Some k)) s top k e (here ids s k within vacant) in omega arith)))
@@ -303,13 +303,13 @@ module _ (ids : List (Option ℕ)) (chains : ℕ) (link new : ℕ → Option ℕ
         lower None below m less = tt
         lower (Some q) below m less = λ top e. let more = below top e in omega arith
 
-    pub inserted : AreLinked (set ids s (Some k)) chains new
+    pub inserted : AreLinked (set ids s (Some k)) chain_of chains new
     inserted chain None lt of' = put_head chain lt before refl
     inserted chain (Some p) lt of' =
-        elim (cases_eq p s) as (λ _. LeadsTo (set ids s (Some k)) (λ m. (m % chains ≡ chain) × IsBelow (set ids s (Some k)) (Some p) m) (new chain (Some p))) [
+        elim (cases_eq p s) as (λ _. LeadsTo (set ids s (Some k)) (λ m. (chain_of m ≡ chain) × IsBelow (set ids s (Some k)) (Some p) m) (new chain (Some p))) [
           | inl is ↦
-              subst (λ (u : ℕ). LeadsTo (set ids s (Some k)) (λ m. (m % chains ≡ chain) × IsBelow (set ids s (Some k)) (Some u) m) (new chain (Some u))) (sym is)
-              (put_after chain lt (subst (λ (u : ℕ). IsOf (set ids s (Some k)) chains chain (Some u)) is of'))
+              subst (λ (u : ℕ). LeadsTo (set ids s (Some k)) (λ m. (chain_of m ≡ chain) × IsBelow (set ids s (Some k)) (Some u) m) (new chain (Some u))) (sym is)
+              (put_after chain lt (subst (λ (u : ℕ). IsOf (set ids s (Some k)) chain_of chain (Some u)) is of'))
           | inr ne ↦
               same_leads (set ids s (Some k)) _ _ (new chain (Some p))
               (λ m holds. (holds.0, λ top e. holds.1 top (sym (get_or-set_other ids s p (Some k) None ne) ∙ e)))
@@ -318,31 +318,31 @@ module _ (ids : List (Option ℕ)) (chains : ℕ) (link new : ℕ → Option ℕ
         ]
 
   -- ---- or one was made to lead past an id that is no longer there
-  module _ (within : s < length ids) (there : id_at ids s ≡ Some k) (inside : IsOf ids chains (k % chains) before) (led : link (k % chains) before ≡ Some s) (bound : k % chains < chains)
-      (first : new (k % chains) before ≡ link (k % chains) (Some s)) (others : (chain : ℕ) (p : Option ℕ) → p ≢ before → p ≢ Some s → new chain p ≡ link chain p)
-      (heads : (chain : ℕ) → chain ≢ k % chains → new chain None ≡ link chain None) where
-    has : (chain : ℕ) (p : Option ℕ) → chain < chains → IsOf ids chains chain p → link chain p ≡ Some s → HasGreatest ids (λ m. (m % chains ≡ chain) × IsBelow ids p m) s
-    has chain p lt of' leads = subst (LeadsTo ids (λ m. (m % chains ≡ chain) × IsBelow ids p m)) leads (linked chain p lt of')
+  module _ (within : s < length ids) (there : id_at ids s ≡ Some k) (inside : IsOf ids chain_of (chain_of k) before) (led : link (chain_of k) before ≡ Some s) (bound : chain_of k < chains)
+      (first : new (chain_of k) before ≡ link (chain_of k) (Some s)) (others : (chain : ℕ) (p : Option ℕ) → p ≢ before → p ≢ Some s → new chain p ≡ link chain p)
+      (heads : (chain : ℕ) → chain ≢ chain_of k → new chain None ≡ link chain None) where
+    has : (chain : ℕ) (p : Option ℕ) → chain < chains → IsOf ids chain_of chain p → link chain p ≡ Some s → HasGreatest ids (λ m. (chain_of m ≡ chain) × IsBelow ids p m) s
+    has chain p lt of' leads = subst (LeadsTo ids (λ m. (chain_of m ≡ chain) × IsBelow ids p m)) leads (linked chain p lt of')
 
-    out_other : (chain : ℕ) (p : Option ℕ) → chain < chains → IsOf ids chains chain p → (k % chains ≡ chain → p ≢ before)
-        → LeadsTo (set ids s None) (λ m. (m % chains ≡ chain) × IsBelow ids p m) (link chain p)
+    out_other : (chain : ℕ) (p : Option ℕ) → chain < chains → IsOf ids chain_of chain p → (chain_of k ≡ chain → p ≢ before)
+        → LeadsTo (set ids s None) (λ m. (chain_of m ≡ chain) × IsBelow ids p m) (link chain p)
     out_other chain p lt of' ne =
-        out_past ids s k there within (λ m. (m % chains ≡ chain) × IsBelow ids p m) (link chain p)
+        out_past ids s k there within (λ m. (chain_of m ≡ chain) × IsBelow ids p m) (link chain p)
         (λ (leads : link chain p ≡ Some s).
         let mine = has chain p lt of' leads in
         let one = same_id ids s mine.id k mine.at there in
-        let same : k % chains ≡ chain = ap (λ (u : ℕ). u % chains) (sym one) ∙ mine.holds.0 in
-        let at = subst (λ (c : ℕ). IsOf ids chains c before) same inside in
+        let same : chain_of k ≡ chain = ap (λ (u : ℕ). chain_of u) (sym one) ∙ mine.holds.0 in
+        let at = subst (λ (c : ℕ). IsOf ids chain_of c before) same inside in
         let before_leads = subst (λ (c : ℕ). link c before ≡ Some s) same led in
-        ne same (only ids chains link linked distinct chain lt before p s k there at (has chain before lt at before_leads) of' mine))
+        ne same (only ids chain_of chains link linked distinct chain lt before p s k there at (has chain before lt at before_leads) of' mine))
         (linked chain p lt of')
 
-    out_here : LeadsTo (set ids s None) (λ m. (m % chains ≡ k % chains) × IsBelow ids before m) (link (k % chains) (Some s))
+    out_here : LeadsTo (set ids s None) (λ m. (chain_of m ≡ chain_of k) × IsBelow ids before m) (link (chain_of k) (Some s))
     out_here =
-        let mine = has (k % chains) before bound inside led in
+        let mine = has (chain_of k) before bound inside led in
         let one = same_id ids s mine.id k mine.at there in
-        out_first ids s k there within (λ m. (m % chains ≡ k % chains) × IsBelow ids before m) (λ m. (m % chains ≡ k % chains) × IsBelow ids (Some s) m) (link (k % chains) (Some s))
-        mine (linked (k % chains) (Some s) bound (k, there, refl)) (λ t at. distinct t s k at there)
+        out_first ids s k there within (λ m. (chain_of m ≡ chain_of k) × IsBelow ids before m) (λ m. (chain_of m ≡ chain_of k) × IsBelow ids (Some s) m) (link (chain_of k) (Some s))
+        mine (linked (chain_of k) (Some s) bound (k, there, refl)) (λ t at. distinct t s k at there)
         (λ m holds less. (holds.0, λ top e. let same = same_id ids s top k e there in omega arith))
         (λ m q. ((q.0, lower before (subst (IsBelow ids before) one mine.holds.1) m (q.1 k there)), q.1 k there))
       where
@@ -350,35 +350,35 @@ module _ (ids : List (Option ℕ)) (chains : ℕ) (link new : ℕ → Option ℕ
         lower None below m less = tt
         lower (Some q) below m less = λ top e. let more = below top e in omega arith
 
-    out_chain : (chain : ℕ) → k % chains ≡ chain → (p : Option ℕ) → p ≡ before → LeadsTo (set ids s None) (λ m. (m % chains ≡ chain) × IsBelow ids p m) (new chain p)
+    out_chain : (chain : ℕ) → chain_of k ≡ chain → (p : Option ℕ) → p ≡ before → LeadsTo (set ids s None) (λ m. (chain_of m ≡ chain) × IsBelow ids p m) (new chain p)
     out_chain chain same p is =
-        subst (λ (c : ℕ). LeadsTo (set ids s None) (λ m. (m % chains ≡ c) × IsBelow ids p m) (new c p)) same
-        (subst (λ (o : Option ℕ). LeadsTo (set ids s None) (λ m. (m % chains ≡ k % chains) × IsBelow ids o m) (new (k % chains) o)) (sym is)
-        (subst (LeadsTo (set ids s None) (λ m. (m % chains ≡ k % chains) × IsBelow ids before m)) (sym first) out_here))
+        subst (λ (c : ℕ). LeadsTo (set ids s None) (λ m. (chain_of m ≡ c) × IsBelow ids p m) (new c p)) same
+        (subst (λ (o : Option ℕ). LeadsTo (set ids s None) (λ m. (chain_of m ≡ chain_of k) × IsBelow ids o m) (new (chain_of k) o)) (sym is)
+        (subst (LeadsTo (set ids s None) (λ m. (chain_of m ≡ chain_of k) × IsBelow ids before m)) (sym first) out_here))
 
-    out_head : (chain : ℕ) → chain < chains → (other : Option ℕ) → before ≡ other → LeadsTo (set ids s None) (λ m. (m % chains ≡ chain) × Unit {0}) (new chain None)
+    out_head : (chain : ℕ) → chain < chains → (other : Option ℕ) → before ≡ other → LeadsTo (set ids s None) (λ m. (chain_of m ≡ chain) × Unit {0}) (new chain None)
     out_head chain lt None is =
-        elim (cases_eq chain (k % chains)) as (λ _. LeadsTo (set ids s None) (λ m. (m % chains ≡ chain) × Unit {0}) (new chain None)) [
+        elim (cases_eq chain (chain_of k)) as (λ _. LeadsTo (set ids s None) (λ m. (chain_of m ≡ chain) × Unit {0}) (new chain None)) [
           | inl same ↦ out_chain chain (sym same) None (sym is)
-          | inr differs ↦ subst (LeadsTo (set ids s None) (λ m. (m % chains ≡ chain) × Unit {0})) (sym (heads chain differs)) (out_other chain None lt tt (λ same. absurd (differs (sym same))))
+          | inr differs ↦ subst (LeadsTo (set ids s None) (λ m. (chain_of m ≡ chain) × Unit {0})) (sym (heads chain differs)) (out_other chain None lt tt (λ same. absurd (differs (sym same))))
         ]
     out_head chain lt (Some q) is =
         let ne : None ≢ before = λ (e : None ≡ before). let no : None ≡ Some q = e ∙ is in cc in
-        subst (LeadsTo (set ids s None) (λ m. (m % chains ≡ chain) × Unit {0})) (sym (others chain None ne (λ (e : None ≡ Some s). cc))) (out_other chain None lt tt (λ same. ne))
+        subst (LeadsTo (set ids s None) (λ m. (chain_of m ≡ chain) × Unit {0})) (sym (others chain None ne (λ (e : None ≡ Some s). cc))) (out_other chain None lt tt (λ same. ne))
 
-    out_slot : (chain p : ℕ) → chain < chains → IsOf ids chains chain (Some p) → p ≢ s → LeadsTo (set ids s None) (λ m. (m % chains ≡ chain) × IsBelow ids (Some p) m) (new chain (Some p))
+    out_slot : (chain p : ℕ) → chain < chains → IsOf ids chain_of chain (Some p) → p ≢ s → LeadsTo (set ids s None) (λ m. (chain_of m ≡ chain) × IsBelow ids (Some p) m) (new chain (Some p))
     out_slot chain p lt of' ne =
-        elim (same_before p before) as (λ _. LeadsTo (set ids s None) (λ m. (m % chains ≡ chain) × IsBelow ids (Some p) m) (new chain (Some p))) [
+        elim (same_before p before) as (λ _. LeadsTo (set ids s None) (λ m. (chain_of m ≡ chain) × IsBelow ids (Some p) m) (new chain (Some p))) [
           | inl is ↦
-              let mine = subst (λ (o : Option ℕ). IsOf ids chains (k % chains) o) (sym is) inside in
+              let mine = subst (λ (o : Option ℕ). IsOf ids chain_of (chain_of k) o) (sym is) inside in
               let one = same_id ids p mine.0 of'.0 mine.1 of'.1 in
-              out_chain chain (sym mine.2 ∙ ap (λ (u : ℕ). u % chains) one ∙ of'.2) (Some p) is
+              out_chain chain (sym mine.2 ∙ ap (λ (u : ℕ). chain_of u) one ∙ of'.2) (Some p) is
           | inr differs ↦
-              subst (LeadsTo (set ids s None) (λ m. (m % chains ≡ chain) × IsBelow ids (Some p) m)) (sym (others chain (Some p) differs (some_other p s ne)))
+              subst (LeadsTo (set ids s None) (λ m. (chain_of m ≡ chain) × IsBelow ids (Some p) m)) (sym (others chain (Some p) differs (some_other p s ne)))
               (out_other chain (Some p) lt of' (λ same. differs))
         ]
 
-    pub removed : AreLinked (set ids s None) chains new
+    pub removed : AreLinked (set ids s None) chain_of chains new
     removed chain None lt of' = out_head chain lt before refl
     removed chain (Some p) lt of' =
         let old = left ids s k there within p of'.0 of'.1 in

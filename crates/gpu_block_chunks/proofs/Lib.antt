@@ -10,6 +10,7 @@ pub mod Joins
 pub mod Unlinks
 pub mod NextTo
 pub mod Listing
+pub mod Eras
 pub mod IdChains
 pub mod IdSlots
 pub mod IdRows

@@ -1,9 +1,11 @@
 -- Chunk ids in slots, and the chains in which they are found: each link leads to the greatest id of its chain that is left.
-use Rattle.std.specs.Prelude.{◌≡◌, ◌≢◌, ℕ, ◌+◌, ◌-◌, ◌%◌, ◌^◌, ◌<◌, ◌≤◌, List, [], ◌∷◌, ◌++◌, map, length, replicate, Option, Some, None, MatchOption, cond, slice_index_or}
-use Rattle.std.specs.Int.{IsPowerOfTwo}
+use Rattle.std.specs.Prelude.{◌≡◌, ◌≢◌, ℕ, ◌+◌, ◌-◌, ◌^◌, ◌<◌, ◌≤◌, List, [], ◌∷◌, ◌++◌, map, length, replicate, Option, Some, None, MatchOption, cond, slice_index_or}
 use Rattle.std.specs.Option.{option_map}
 use Rattle.gpu_block_chunks.specs.declared.chain.link.LinkedChunk.{LinkedChunk}
+use Rattle.gpu_block_chunks.specs.declared.chain.chunk_ids.ChunkIds.{ChunkIds}
+use Rattle.gpu_block_chunks.specs.declared.chain.eras.Eras.{Eras}
 use Rattle.gpu_block_chunks.specs.Chain.{is_at}
+use Rattle.gpu_block_chunks.specs.Eras.{own_chain}
 
 -- the id in a slot
 abbrev pub id_at : List (Option ℕ) → ℕ → Option ℕ
@@ -22,10 +24,6 @@ id_of chunk = option_map (λ n. (n.chunk).chunk_id) chunk
 abbrev pub ids_of : List (Option LinkedChunk) → ℕ → List (Option ℕ)
 ids_of chunks slots = map id_of chunks ++ replicate (slots - length chunks) None
 
--- each id is that of the chunk in its slot
-abbrev pub AreIn : List (Option ℕ) → List (Option LinkedChunk) → Type 0
-AreIn ids chunks = (slot k : ℕ) → id_at ids slot ≡ Some k → id_of (slice_index_or chunks slot None) ≡ Some k
-
 -- the slot to which a head leads, or which follows another
 abbrev pub link_at : List (Option ℕ) → List (Option ℕ) → ℕ → Option ℕ → Option ℕ
 link_at heads followers chain None = slice_index_or heads chain None
@@ -43,9 +41,9 @@ abbrev pub LeadsTo : List (Option ℕ) → (ℕ → Type 0) → Option ℕ → T
 LeadsTo ids P link = MatchOption link ((slot k : ℕ) → id_at ids slot ≡ Some k → P k → ⊥) (HasGreatest ids P)
 
 -- the slot before has an id of the chain, if there is a slot
-abbrev pub IsOf : List (Option ℕ) → ℕ → ℕ → Option ℕ → Type 0
-IsOf ids chains chain None = Unit {0}
-IsOf ids chains chain (Some slot) = (k : ℕ) × (id_at ids slot ≡ Some k) × (k % chains ≡ chain)
+abbrev pub IsOf : List (Option ℕ) → (ℕ → ℕ) → ℕ → Option ℕ → Type 0
+IsOf ids chain_of chain None = Unit {0}
+IsOf ids chain_of chain (Some slot) = (k : ℕ) × (id_at ids slot ≡ Some k) × (chain_of k ≡ chain)
 
 -- the id is below that of a slot, if there is one
 abbrev pub IsBelow : List (Option ℕ) → Option ℕ → ℕ → Type 0
@@ -53,24 +51,37 @@ IsBelow ids None k = Unit {0}
 IsBelow ids (Some slot) k = (top : ℕ) → id_at ids slot ≡ Some top → k < top
 
 -- each link leads to the next lower id of its chain, and each head to the greatest
-abbrev pub AreLinked : List (Option ℕ) → ℕ → (ℕ → Option ℕ → Option ℕ) → Type 0
-AreLinked ids chains link =
-    (chain : ℕ) (before : Option ℕ) → chain < chains → IsOf ids chains chain before
-    → LeadsTo ids (λ k. (k % chains ≡ chain) × IsBelow ids before k) (link chain before)
+abbrev pub AreLinked : List (Option ℕ) → (ℕ → ℕ) → ℕ → (ℕ → Option ℕ → Option ℕ) → Type 0
+AreLinked ids chain_of chains link =
+    (chain : ℕ) (before : Option ℕ) → chain < chains → IsOf ids chain_of chain before
+    → LeadsTo ids (λ k. (chain_of k ≡ chain) × IsBelow ids before k) (link chain before)
 
--- the ids in slots are distinct and linked in chains, of which there are no fewer than slots
-pub record AreChains (heads followers ids : List (Option ℕ)) : Type 0 where
-  pub power : IsPowerOfTwo (length heads)
-  pub linked : AreLinked ids (length heads) (link_at heads followers)
+-- the ids in slots are distinct and linked in their chains, of which there are no fewer than slots
+pub record AreChains (chain_of : ℕ → ℕ) (heads followers ids : List (Option ℕ)) : Type 0 where
+  pub inside : (k : ℕ) → chain_of k < length heads
+  pub linked : AreLinked ids chain_of (length heads) (link_at heads followers)
   pub distinct : (s t k : ℕ) → id_at ids s ≡ Some k → id_at ids t ≡ Some k → s ≡ t
   pub long : length ids ≡ length followers
   pub enough : length followers ≤ length heads
   pub few : length followers < 2 ^ 32
 
--- the chunks in slots are found: their ids are in the chains, and each slot can have a follower
-pub record AreFound (heads followers : List (Option ℕ)) (chunks : List (Option LinkedChunk)) : Type 0 where
-  pub chained : AreChains heads followers (ids_of chunks (length followers))
+-- no id is later than the latest
+abbrev pub AreKnown : Eras → List (Option ℕ) → Type 0
+AreKnown eras ids = (slot k : ℕ) → id_at ids slot ≡ Some k → k ≤ eras.latest
+
+-- the chunks in slots are found: each id is in the chain that it got when it was new, and each slot can have a follower
+pub record AreFound (eras : Eras) (heads followers : List (Option ℕ)) (chunks : List (Option LinkedChunk)) : Type 0 where
+  pub chained : AreChains (own_chain eras) heads followers (ids_of chunks (length followers))
+  pub known : AreKnown eras (ids_of chunks (length followers))
+  pub chains : length heads ≡ 2 ^ eras.newest
+  pub newest : eras.newest < 33
   pub enough : length chunks ≤ length followers
+
+-- chunks that were found are found still
+abbrev pub KeepsFound : ChunkIds → ChunkIds → Type 0
+KeepsFound old new =
+    (chunks : List (Option LinkedChunk)) → AreFound old.eras old.heads.items old.followers.items chunks
+    → AreFound new.eras new.heads.items new.followers.items chunks
 
 -- the slot has a greater id
 abbrev pub IsAbove : List (Option ℕ) → ℕ → ℕ → Type 0
@@ -81,8 +92,8 @@ abbrev pub NoneAbove : List (Option ℕ) → Option ℕ → ℕ → Type 0
 NoneAbove ids link k = (slot id : ℕ) → link ≡ Some slot → id_at ids slot ≡ Some id → id ≤ k
 
 -- the place of an id in its chain is behind that slot, or at the head
-pub record IsPlace (heads followers ids : List (Option ℕ)) (chain k : ℕ) (before : Option ℕ) : Type 0 where
-  pub inside : IsOf ids (length heads) chain before
+pub record IsPlace (chain_of : ℕ → ℕ) (heads followers ids : List (Option ℕ)) (chain k : ℕ) (before : Option ℕ) : Type 0 where
+  pub inside : IsOf ids chain_of chain before
   pub below : IsBelow ids before k
   pub last : NoneAbove ids (link_at heads followers chain before) k
 

@@ -5,6 +5,7 @@ pub mod Chain
 pub mod Slots
 pub mod SlotLink
 pub mod FreeSlots
+pub mod Eras
 pub mod ChunkIds
 pub mod Nodes
 pub use Rattle.gpu_cost.specs.Cost

@@ -1,6 +1,7 @@
 -- A chain's chunks in slots, the number in each slot, and links from a chunk to the slots of the ones beside it.
 use Rattle.std.specs.Prelude.{◌≡◌, ◌≢◌, ℕ, ◌^◌, ◌<◌, ◌≤◌, List, Option, Some, None, IfSome, IsSome, length, slice_index_or}
 use Rattle.std.specs.Option.{option_map}
+use Rattle.gpu_block_chunks.specs.declared.chain.eras.Eras.{Eras}
 use Rattle.gpu_block_chunks.specs.declared.chain.link.Link.{Link}
 use Rattle.gpu_block_chunks.specs.declared.chain.link.LinkedChunk.{LinkedChunk}
 use Rattle.gpu_block_chunks.specs.Chain.{Node}
@@ -85,6 +86,6 @@ pub record AreSound (ids : List (Option ℕ)) (chunks : List (Option LinkedChunk
   pub next : (s : ℕ) (n : LinkedChunk) → slice_index_or chunks s None ≡ Some n → IsTaken ids n.next
 
 -- the chunks in slots are sound with their own numbers, by which they are found
-pub record AreNodes (heads followers : List (Option ℕ)) (chunks : List (Option LinkedChunk)) : Type 0 where
-  pub found : AreFound heads followers chunks
+pub record AreNodes (eras : Eras) (heads followers : List (Option ℕ)) (chunks : List (Option LinkedChunk)) : Type 0 where
+  pub found : AreFound eras heads followers chunks
   pub sound : AreSound (ids_of chunks (length followers)) chunks

@@ -9,6 +9,7 @@ ghost use Rattle.gpu_block_chunks.specs.ChunkList.{Covers, AreDistinct, chunk_of
 ghost use Rattle.gpu_block_chunks.specs.Chain.{HasChunkId, HasNoChunkId, HasNoPiece, ReleasesPiece, IsSplit, IsFilled, IsWorded, from_chunk_id, beside, beside_of, around_of, first_after, IsChunkAt, IsFresh, IsLonger};
 
 mod chunk_ids;
+mod eras;
 mod link;
 mod node;
 mod nodes;

@@ -34,7 +34,7 @@ impl Model for Nodes {
       room = min (length n.ids.followers.items - taken n.chunks) n.chunks.room;
     } };
 
-    ghost invariant = { λ n. AreNodes n.ids.heads.items n.ids.followers.items n.chunks.slots };
+    ghost invariant = { λ n. AreNodes n.ids.eras n.ids.heads.items n.ids.followers.items n.chunks.slots };
 }
 
 impl Nodes {
@@ -44,8 +44,8 @@ impl Nodes {
         ensures room { IfOk result (λ n. capacity ≤ room_of n) }
     {
         let chunks = Slots::with_capacity(alloc, capacity)?;
-        let mut ids = ChunkIds::with_slots(alloc, 0)?;
-        ids.reserve_to(&chunks, capacity)?;
+        let mut ids = ChunkIds::new(alloc)?;
+        ids.reserve_to(capacity)?;
         Ok(Nodes { ids, chunks })
     }
 
@@ -129,7 +129,7 @@ impl Nodes {
         ensures kept { room_of self.old ≤ room_of self.new }
     {
         self.chunks.reserve(more)?;
-        self.ids.reserve_to(&self.chunks, self.chunks.capacity())
+        self.ids.reserve_to(self.chunks.capacity())
     }
 
     /// Puts a chunk under its number, which no other has. There is room for it, so no memory is taken.

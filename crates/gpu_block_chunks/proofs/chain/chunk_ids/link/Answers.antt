@@ -1,5 +1,5 @@
 use Rattle.std.proofs.Common.{ℕ, Option, set, subst}
-use Rattle.gpu_block_chunks.specs.ChunkIds.{link_at, ChangesLink, PutsBehind}
+use Rattle.gpu_block_chunks.specs.ChunkIds.{link_at, ChangesLink}
 use Rattle.gpu_block_chunks.proofs.IdRows.{put_behind}
 use Rattle.gpu_block_chunks.proofs.chain.chunk_ids.link.Goals as goal
 
@@ -8,8 +8,7 @@ returns-clause-links c =
     let heads = c.args.heads.now in
     let fs = c.args.followers.now in
     let set_follower = c.set_follower in
-    let links = subst (λ (l : Option ℕ). ChangesLink (link_at heads (set fs c.args.slot c.follower.result)) (link_at set_follower.new.heads set_follower.new.followers) c.chain_of-chain.result c.args.before l)
+    let links = subst (λ (l : Option ℕ). ChangesLink (link_at heads (set fs c.args.slot c.follower.result)) (link_at set_follower.new.heads set_follower.new.followers) c.args.chain c.args.before l)
     c.new.ensures set_follower.ensures.links in
-    subst (λ (chain : ℕ). PutsBehind (link_at heads fs) (link_at set_follower.new.heads set_follower.new.followers) chain c.args.before c.args.slot) c.chain_of-chain.ensures.value
-    (put_behind heads fs set_follower.new.heads set_follower.new.followers c.chain_of-chain.result c.args.before c.args.slot c.follower.result
-    c.requires.other c.requires.slot c.follower.ensures links)
+    put_behind heads fs set_follower.new.heads set_follower.new.followers c.args.chain c.args.before c.args.slot c.follower.result
+    c.requires.other c.requires.slot c.follower.ensures links

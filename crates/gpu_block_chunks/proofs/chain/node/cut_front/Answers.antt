@@ -15,7 +15,7 @@ cut_front-requires c = record {
 
 pub invariant_of-nodes : goal.invariant_of-nodes
 invariant_of-nodes c =
-    nodes_kept c.nodes.inside.ids.heads.items c.nodes.inside.ids.followers.items c.nodes.inside.chunks.slots c.cut_front.new.self.slots c.args.at.slot (cut_linked c.args.taken c.slot_of.result)
+    nodes_kept c.nodes.inside.ids.eras c.nodes.inside.ids.heads.items c.nodes.inside.ids.followers.items c.nodes.inside.chunks.slots c.cut_front.new.self.slots c.args.at.slot (cut_linked c.args.taken c.slot_of.result)
     (ap (λ (s : Stored). s.slots) c.cut_front.ensures.changes) (λ n. refl) c.nodes.invariant
     (changed_sound _ _ c.nodes.view_is c.nodes.invariant.sound c.args.at c.requires.leads c.cut_front.new.self.slots (cut_linked c.args.taken c.slot_of.result)
     (ap (λ (s : Stored). s.slots) c.cut_front.ensures.changes) (λ n. refl)
@@ -24,12 +24,12 @@ invariant_of-nodes c =
 
 pub returns-clause-changes : goal.returns-clause-changes
 returns-clause-changes c =
-    held_kept c.nodes.inside.ids.heads.items c.nodes.inside.ids.followers.items c.nodes.inside.chunks.slots c.cut_front.new.self.slots c.args.at.slot (cut_linked c.args.taken c.slot_of.result)
+    held_kept c.nodes.inside.ids.eras c.nodes.inside.ids.heads.items c.nodes.inside.ids.followers.items c.nodes.inside.chunks.slots c.cut_front.new.self.slots c.args.at.slot (cut_linked c.args.taken c.slot_of.result)
     (ap (λ (s : Stored). s.slots) c.cut_front.ensures.changes) (λ n. refl) _ _ _
     (changed_changes _ _ c.nodes.view_is c.nodes.invariant.sound c.args.at c.requires.leads c.cut_front.new.self.slots (cut_linked c.args.taken c.slot_of.result)
     (ap (λ (s : Stored). s.slots) c.cut_front.ensures.changes) (cut_node c.args.taken (link_chunk_id c.args.prev))
     (λ n. rw (c.slot_of.ensures, numbers _ _ c.nodes.view_is c.nodes.invariant.sound c.args.at c.requires.leads c.args.prev c.requires.prev) refl))
 
 pub returns-clause-ids : goal.returns-clause-ids
-returns-clause-ids c = rw (← c.nodes.view_is) (numbers_kept c.nodes.inside.ids.heads.items c.nodes.inside.ids.followers.items c.nodes.inside.chunks.slots c.cut_front.new.self.slots c.args.at.slot (cut_linked c.args.taken c.slot_of.result)
+returns-clause-ids c = rw (← c.nodes.view_is) (numbers_kept c.nodes.inside.ids.eras c.nodes.inside.ids.heads.items c.nodes.inside.ids.followers.items c.nodes.inside.chunks.slots c.cut_front.new.self.slots c.args.at.slot (cut_linked c.args.taken c.slot_of.result)
     (ap (λ (s : Stored). s.slots) c.cut_front.ensures.changes) (λ n. refl))

@@ -15,7 +15,7 @@ lengthen-requires c = record {
 
 pub invariant_of-nodes : goal.invariant_of-nodes
 invariant_of-nodes c =
-    nodes_kept c.nodes.inside.ids.heads.items c.nodes.inside.ids.followers.items c.nodes.inside.chunks.slots c.lengthen.new.self.slots c.args.at.slot (joined_linked c.args.more c.slot_of.result)
+    nodes_kept c.nodes.inside.ids.eras c.nodes.inside.ids.heads.items c.nodes.inside.ids.followers.items c.nodes.inside.chunks.slots c.lengthen.new.self.slots c.args.at.slot (joined_linked c.args.more c.slot_of.result)
     (ap (λ (s : Stored). s.slots) c.lengthen.ensures.changes) (λ n. refl) c.nodes.invariant
     (changed_sound _ _ c.nodes.view_is c.nodes.invariant.sound c.args.at c.requires.leads c.lengthen.new.self.slots (joined_linked c.args.more c.slot_of.result)
     (ap (λ (s : Stored). s.slots) c.lengthen.ensures.changes) (λ n. refl)
@@ -24,12 +24,12 @@ invariant_of-nodes c =
 
 pub returns-clause-changes : goal.returns-clause-changes
 returns-clause-changes c =
-    held_kept c.nodes.inside.ids.heads.items c.nodes.inside.ids.followers.items c.nodes.inside.chunks.slots c.lengthen.new.self.slots c.args.at.slot (joined_linked c.args.more c.slot_of.result)
+    held_kept c.nodes.inside.ids.eras c.nodes.inside.ids.heads.items c.nodes.inside.ids.followers.items c.nodes.inside.chunks.slots c.lengthen.new.self.slots c.args.at.slot (joined_linked c.args.more c.slot_of.result)
     (ap (λ (s : Stored). s.slots) c.lengthen.ensures.changes) (λ n. refl) _ _ _
     (changed_changes _ _ c.nodes.view_is c.nodes.invariant.sound c.args.at c.requires.leads c.lengthen.new.self.slots (joined_linked c.args.more c.slot_of.result)
     (ap (λ (s : Stored). s.slots) c.lengthen.ensures.changes) (joined_node c.args.more (link_chunk_id c.args.next))
     (λ n. rw (c.slot_of.ensures, numbers _ _ c.nodes.view_is c.nodes.invariant.sound c.args.at c.requires.leads c.args.next c.requires.next) refl))
 
 pub returns-clause-ids : goal.returns-clause-ids
-returns-clause-ids c = rw (← c.nodes.view_is) (numbers_kept c.nodes.inside.ids.heads.items c.nodes.inside.ids.followers.items c.nodes.inside.chunks.slots c.lengthen.new.self.slots c.args.at.slot (joined_linked c.args.more c.slot_of.result)
+returns-clause-ids c = rw (← c.nodes.view_is) (numbers_kept c.nodes.inside.ids.eras c.nodes.inside.ids.heads.items c.nodes.inside.ids.followers.items c.nodes.inside.chunks.slots c.lengthen.new.self.slots c.args.at.slot (joined_linked c.args.more c.slot_of.result)
     (ap (λ (s : Stored). s.slots) c.lengthen.ensures.changes) (λ n. refl))

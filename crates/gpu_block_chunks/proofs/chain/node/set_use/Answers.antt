@@ -10,18 +10,18 @@ set_use-requires c = some_there _ _ c.nodes.view_is c.nodes.invariant.sound c.ar
 
 pub invariant_of-nodes : goal.invariant_of-nodes
 invariant_of-nodes c =
-    nodes_kept c.nodes.inside.ids.heads.items c.nodes.inside.ids.followers.items c.nodes.inside.chunks.slots c.set_use.new.self.slots c.args.at.slot (used_linked c.args.offset c.args.kind c.args.label)
+    nodes_kept c.nodes.inside.ids.eras c.nodes.inside.ids.heads.items c.nodes.inside.ids.followers.items c.nodes.inside.chunks.slots c.set_use.new.self.slots c.args.at.slot (used_linked c.args.offset c.args.kind c.args.label)
     (ap (λ (s : Stored). s.slots) c.set_use.ensures.changes) (λ n. refl) c.nodes.invariant
     (changed_sound _ _ c.nodes.view_is c.nodes.invariant.sound c.args.at c.requires.0 c.set_use.new.self.slots (used_linked c.args.offset c.args.kind c.args.label)
     (ap (λ (s : Stored). s.slots) c.set_use.ensures.changes) (λ n. refl) (λ n kept. kept) (λ n kept. kept))
 
 pub returns-clause-changes : goal.returns-clause-changes
 returns-clause-changes c =
-    held_kept c.nodes.inside.ids.heads.items c.nodes.inside.ids.followers.items c.nodes.inside.chunks.slots c.set_use.new.self.slots c.args.at.slot (used_linked c.args.offset c.args.kind c.args.label)
+    held_kept c.nodes.inside.ids.eras c.nodes.inside.ids.heads.items c.nodes.inside.ids.followers.items c.nodes.inside.chunks.slots c.set_use.new.self.slots c.args.at.slot (used_linked c.args.offset c.args.kind c.args.label)
     (ap (λ (s : Stored). s.slots) c.set_use.ensures.changes) (λ n. refl) _ _ _
     (changed_changes _ _ c.nodes.view_is c.nodes.invariant.sound c.args.at c.requires.0 c.set_use.new.self.slots (used_linked c.args.offset c.args.kind c.args.label)
     (ap (λ (s : Stored). s.slots) c.set_use.ensures.changes) (used_node c.args.offset c.args.kind c.args.label) (λ n. refl))
 
 pub returns-clause-ids : goal.returns-clause-ids
-returns-clause-ids c = rw (← c.nodes.view_is) (numbers_kept c.nodes.inside.ids.heads.items c.nodes.inside.ids.followers.items c.nodes.inside.chunks.slots c.set_use.new.self.slots c.args.at.slot (used_linked c.args.offset c.args.kind c.args.label)
+returns-clause-ids c = rw (← c.nodes.view_is) (numbers_kept c.nodes.inside.ids.eras c.nodes.inside.ids.heads.items c.nodes.inside.ids.followers.items c.nodes.inside.chunks.slots c.set_use.new.self.slots c.args.at.slot (used_linked c.args.offset c.args.kind c.args.label)
     (ap (λ (s : Stored). s.slots) c.set_use.ensures.changes) (λ n. refl))
