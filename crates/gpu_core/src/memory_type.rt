@@ -181,8 +181,8 @@ impl<H: Copy + Eq> MemoryType<H> {
     }
 
     /// A second place for a piece, for the same request, in a block of a higher slot: the place that the request would have as
-    /// a new piece, if it lies there. `None` where no block ahead has one. No block is needed or freed for it. The only
-    /// refusal is `HostOutOfMemory`; where there is no place, nothing changes.
+    /// a new piece, if it lies there; its word is 0. `None` where no block ahead has one. No block is needed or freed for it. The
+    /// only refusal is `HostOutOfMemory`; where there is no place, nothing changes.
     pub fn propose_move(&mut self, piece: &Piece<H>, request: &Request) -> Result<Option<Piece<H>>>
         requires sized { 0 < request.now.size }
         requires aligned { IsTrue (is_power_of_two request.now.alignment) }

@@ -213,9 +213,9 @@ impl<D: VulkanDevice> Allocator<D> {
         }
     }
 
-    /// Finishes a move: frees the first place of an allocation, whose owner uses the second from then on. A null one is nothing to free. A live one is never
-    /// refused; any other comes back as it was, beside `Internal`, and then nothing changes. Its block goes back as by `free`. It
-    /// takes no memory.
+    /// Finishes a move: frees the first place of an allocation, whose owner uses the second from then on. A null one is nothing to free. A
+    /// live one is never refused; any other comes back as it was, beside `Internal`, and then nothing changes. Its block goes back as by
+    /// `free`. It takes no memory.
     pub fn finish_move<L: Log>(
         &mut self,
         log: &L,

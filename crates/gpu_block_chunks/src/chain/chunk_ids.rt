@@ -2,6 +2,7 @@
 //! are was settled when an id was new. The ids themselves are read in the chunks.
 
 ghost use Rattle.std.specs.Prelude.{◌≡◌, ◌≢◌, ◌+◌, ◌^◌, ◌<◌, ◌≤◌, ℕ, [], ◌++◌, Some, None, IsSome, IfSome, IfOk, OnOk, OnErr, MatchOption, length, max, replicate, slice_set};
+ghost use Rattle.gpu_rows.specs.Rows.{row_count};
 ghost use Rattle.gpu_block_chunks.specs.Eras.{own_chain};
 ghost use Rattle.gpu_block_chunks.specs.Slots.{chunk_at};
 ghost use Rattle.gpu_block_chunks.specs.ChunkIds.{slot_of, id_at, id_of, ids_of, link_at, AreChains, AreFound, KeepsFound, IsOf, IsPlace, IsAbove, NoneAbove, ChangesLink, PutsBehind};
@@ -9,6 +10,7 @@ ghost use Rattle.gpu_block_chunks.specs.ChunkIds.{slot_of, id_at, id_of, ids_of,
 use super::eras::Eras;
 use super::slot_link::SlotLink;
 use super::slots::Slots;
+use gpu_rows::Rows;
 use std::alloc::{AllocError, Global};
 
 /// How many slots there can be at most: the greatest number of 32 bits is that of no slot.
@@ -19,7 +21,7 @@ const MOST: usize = (1 << 32) - 1;
 #[derive(Drop)]
 pub struct ChunkIds {
     heads: Vec<SlotLink>,
-    followers: Vec<SlotLink>,
+    followers: Rows<SlotLink>,
     eras: Eras,
 }
 
@@ -35,13 +37,13 @@ fn id_in(chunks: &Slots, slot: u32) -> u64
 /// The slot that follows one in its chain, or that a head leads to.
 fn follower(
     heads: &[SlotLink],
-    followers: &[SlotLink],
+    followers: &Rows<SlotLink>,
     chain: usize,
     before: Option<u32>,
 ) -> SlotLink
     requires chain { chain < length heads.now }
-    requires before { IfSome before (λ s. s < length followers.now) }
-    ensures { result ≡ link_at heads.now followers.now chain before }
+    requires before { IfSome before (λ s. s < row_count followers.now) }
+    ensures { result ≡ link_at heads.now followers.now.items chain before }
 {
     match before {
         Some(slot) => followers[slot as usize],
@@ -52,17 +54,17 @@ fn follower(
 /// Lets another slot follow one in its chain, or a head lead to another.
 fn set_follower(
     heads: &mut [SlotLink],
-    followers: &mut [SlotLink],
+    followers: &mut Rows<SlotLink>,
     chain: usize,
     before: Option<u32>,
     link: SlotLink,
 )
     requires chain { chain < length heads.old }
-    requires before { IfSome before (λ s. s < length followers.old) }
-    ensures links { ChangesLink (link_at heads.old followers.old)
-        (link_at heads.new followers.new) chain before link }
+    requires before { IfSome before (λ s. s < row_count followers.old) }
+    ensures links { ChangesLink (link_at heads.old followers.old.items)
+        (link_at heads.new followers.new.items) chain before link }
     ensures heads { length heads.new ≡ length heads.old }
-    ensures followers { length followers.new ≡ length followers.old }
+    ensures followers { row_count followers.new ≡ row_count followers.old }
 {
     match before {
         Some(slot) => followers[slot as usize] = link,
@@ -73,33 +75,46 @@ fn set_follower(
 /// Puts a slot into a chain, behind the slot that is before it.
 fn link(
     heads: &mut [SlotLink],
-    followers: &mut [SlotLink],
+    followers: &mut Rows<SlotLink>,
     chain: usize,
     before: Option<u32>,
     slot: u32,
 )
     requires chain { chain < length heads.old }
-    requires few { length followers.old < 2 ^ 32 }
-    requires before { IfSome before (λ s. s < length followers.old) }
+    requires few { row_count followers.old < 2 ^ 32 }
+    requires before { IfSome before (λ s. s < row_count followers.old) }
     requires other { before ≢ Some slot }
-    requires slot { slot < length followers.old }
-    ensures links { PutsBehind (link_at heads.old followers.old)
-        (link_at heads.new followers.new) chain before slot }
+    requires slot { slot < row_count followers.old }
+    ensures links { PutsBehind (link_at heads.old followers.old.items)
+        (link_at heads.new followers.new.items) chain before slot }
     ensures heads { length heads.new ≡ length heads.old }
-    ensures followers { length followers.new ≡ length followers.old }
+    ensures followers { row_count followers.new ≡ row_count followers.old }
 {
     followers[slot as usize] = follower(heads, followers, chain, before);
     set_follower(heads, followers, chain, before, SlotLink::new(Some(slot)));
 }
 
-/// So many links more, to no slot. A refusal changes none.
-fn lengthen(links: &mut Vec<SlotLink>, more: usize) -> Result<(), AllocError>
-    ensures longer { OnOk result (links.new.items ≡ links.old.items ++ replicate more None) }
-    ensures same { OnErr result (links.new.items ≡ links.old.items) }
+/// So many heads more, which lead to no slot. A refusal changes none.
+fn add_heads(heads: &mut Vec<SlotLink>, more: usize) -> Result<(), AllocError>
+    ensures longer { OnOk result (heads.new.items ≡ heads.old.items ++ replicate more None) }
+    ensures same { OnErr result (heads.new.items ≡ heads.old.items) }
 {
-    links.reserve_exact(more)?;
+    heads.reserve_exact(more)?;
     for _ in 0..more {
-        links.push_reserved(SlotLink::none());
+        heads.push_reserved(SlotLink::none());
+    }
+    Ok(())
+}
+
+/// So many slots more, which no other follows. A refusal changes none.
+fn add_followers(followers: &mut Rows<SlotLink>, more: usize) -> Result<(), AllocError>
+    ensures longer { OnOk result (followers.new.items
+        ≡ followers.old.items ++ replicate more None) }
+    ensures same { OnErr result (followers.new.items ≡ followers.old.items) }
+{
+    followers.reserve(more)?;
+    for _ in 0..more {
+        followers.push_reserved(SlotLink::none());
     }
     Ok(())
 }
@@ -111,7 +126,7 @@ impl ChunkIds {
     {
         Ok(ChunkIds {
             heads: vec![in alloc; SlotLink::none(); 1]?,
-            followers: Vec::new(alloc),
+            followers: Rows::new(alloc),
             eras: Eras::first(),
         })
     }
@@ -236,7 +251,7 @@ impl ChunkIds {
         ensures followers { self.new.followers.items ≡ self.old.followers.items }
     {
         let more = self.heads.len();
-        lengthen(&mut self.heads, more)?;
+        add_heads(&mut self.heads, more)?;
         self.eras.begin();
         Ok(())
     }
@@ -259,6 +274,6 @@ impl ChunkIds {
             self.double()?;
         }
         let more = slots.saturating_sub(self.followers.len());
-        lengthen(&mut self.followers, more)
+        add_followers(&mut self.followers, more)
     }
 }

@@ -82,14 +82,14 @@ fn leaks(block: &SubAllocator, refused: &mut u64, want: usize) -> bool {
 
 const LONG: &str = "a second piece with a longer name";
 
-const NEW: &str = "a name of more than thirty bytes";
+const NEW: &str = "a name of more than twenty-two bytes";
 
 /// Two pieces with names, one of them long enough to have memory of its own, a gap, and a piece in it.
 fn calls(alloc: Global, b: &mut SubAllocator, refused: &mut u64) -> [bool; 8]
     requires { HasPages (block_of b.old) 1 }
 {
     let before = "first 0 100;a second piece with a longer name 100 64;";
-    let after = "first 0 100;a name of more than thirty bytes 100 64;";
+    let after = "first 0 100;a name of more than twenty-two bytes 100 64;";
     [
         takes(b, refused, 100, "first", (0, 2)),
         takes(b, refused, 64, LONG, (100, 3)),
@@ -151,7 +151,7 @@ fn dedicated_calls(alloc: Global, b: &mut SubAllocator, refused: &mut u64) -> [b
     requires { HasPages (block_of b.old) 1 }
 {
     let before = "a second piece with a longer name 0 1000;";
-    let after = "a name of more than thirty bytes 0 1000;";
+    let after = "a name of more than twenty-two bytes 0 1000;";
     [
         takes(b, refused, 1000, LONG, (0, 1)),
         renames(b, alloc, refused, 1, NEW, before),

@@ -30,7 +30,7 @@ fn piece_comes_and_goes(a: &mut Allocator<SimD3D12>, location: MemoryLocation) -
         Ok(mut allocation) => {
             let renamed = a.rename_allocation(
                 &mut allocation,
-                "a name of more than thirty bytes, kept apart",
+                "a name of more than twenty-two bytes, kept apart",
             );
             let freed = a.free(&Discard, allocation);
             u64::from(renamed.is_err()) + u64::from(freed.is_err())

@@ -13,7 +13,7 @@ fn piece_comes(machine: &mut Machine, device: &mut SimD3D12) -> u64 {
     match allocate(machine, device, &upload) {
         Err(_) => 1,
         Ok(it) => {
-            let name = "a name of more than thirty bytes, kept apart";
+            let name = "a name of more than twenty-two bytes, kept apart";
             u64::from(machine.rename(it.memory_type, &it.piece, name).is_err())
         }
     }

@@ -12,7 +12,7 @@ fn piece_comes(machine: &mut Machine, device: &mut SimMetal) -> u64 {
     match allocate(machine, device, &piece(512, MemoryLocation::GpuToCpu)) {
         Err(_) => 1,
         Ok(it) => {
-            let name = "a name of more than thirty bytes, kept apart";
+            let name = "a name of more than twenty-two bytes, kept apart";
             u64::from(machine.rename(it.memory_type, &it.piece, name).is_err())
         }
     }

@@ -8,4 +8,4 @@ id_in-requires c =
     let heads = c.args.self.now.heads.items in
     let fs = c.args.self.now.followers.items in
     chunk_led_to (own_chain c.args.self.now.eras) heads fs c.args.chunks.now.slots c.args.chain c.args.before c.in_ok-slot.slot c.requires.found.chained c.requires.chain c.requires.before
-    (c.in_ok-slot.ensures ∙ (rw (c.deref.ensures.value, c.deref-2.ensures.value) at c.follower.ensures))
+    (c.in_ok-slot.ensures ∙ (rw c.deref.ensures.value at c.follower.ensures))

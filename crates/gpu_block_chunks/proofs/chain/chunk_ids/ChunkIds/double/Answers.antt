@@ -5,10 +5,10 @@ use Rattle.gpu_block_chunks.specs.ChunkIds.{AreFound}
 use Rattle.gpu_block_chunks.proofs.IdsOf.{wide_found}
 use Rattle.gpu_block_chunks.proofs.chain.chunk_ids.ChunkIds.double.Goals as goal
 
-longer : (c : goal.After-begin) → c.lengthen.new.links.items ≡ c.args.self.now.heads.items ++ replicate (length c.args.self.now.heads.items) None
+longer : (c : goal.After-begin) → c.add_heads.new.heads.items ≡ c.args.self.now.heads.items ++ replicate (length c.args.self.now.heads.items) None
 longer c =
     let is : c.len-more.result ≡ length c.args.self.now.heads.items = omega arith in
-    c.in_ok-lengthen.ensures.longer ∙ ap (λ (n : ℕ). c.args.self.now.heads.items ++ replicate n None) is
+    c.in_ok-add_heads.ensures.longer ∙ ap (λ (n : ℕ). c.args.self.now.heads.items ++ replicate n None) is
 
 pub returns-clause-found : goal.returns-clause-found
 returns-clause-found c = λ chunks found.

@@ -12,14 +12,14 @@ returns-in_err-slot c =
     let ids = ids_of c.args.chunks.now.slots (length c.args.self.now.followers.items) in
     c.from_residual.ensures
     ∙ sym (none_home (own_chain c.args.self.now.eras) c.args.self.now.heads.items c.args.self.now.followers.items ids c.args.chunk_id c.last_above-before.result c.requires.chained c.chain_of-chain.result c.chain_of-chain.ensures.value
-    c.last_above-before.ensures None (c.in_err-slot.ensures ∙ (rw (c.deref.ensures.value, c.deref-2.ensures.value) at c.follower.ensures)) (λ s (no : None ≡ Some s). cc))
+    c.last_above-before.ensures None (c.in_err-slot.ensures ∙ (rw c.deref.ensures.value at c.follower.ensures)) (λ s (no : None ≡ Some s). cc))
 
 pub id_in-requires : goal.id_in-requires
 id_in-requires c =
     let chunks = c.args.chunks.now.slots in
     let fs = c.args.self.now.followers.items in
     chunk_led_to (own_chain c.args.self.now.eras) c.args.self.now.heads.items fs chunks c.chain_of-chain.result c.last_above-before.result c.in_ok-slot.slot c.requires.chained
-    (own_inside (own_chain c.args.self.now.eras) c.args.self.now.heads.items fs (ids_of chunks (length fs)) c.args.chunk_id c.chain_of-chain.result c.requires.chained c.chain_of-chain.ensures.value) c.last_above-before.ensures.inside (c.in_ok-slot.ensures ∙ (rw (c.deref.ensures.value, c.deref-2.ensures.value) at c.follower.ensures))
+    (own_inside (own_chain c.args.self.now.eras) c.args.self.now.heads.items fs (ids_of chunks (length fs)) c.args.chunk_id c.chain_of-chain.result c.requires.chained c.chain_of-chain.ensures.value) c.last_above-before.ensures.inside (c.in_ok-slot.ensures ∙ (rw c.deref.ensures.value at c.follower.ensures))
 
 pub returns-then-id_in-chunk_id : goal.returns-then-id_in-chunk_id
 returns-then-id_in-chunk_id c =
@@ -28,7 +28,7 @@ returns-then-id_in-chunk_id c =
     let ids = ids_of chunks (length fs) in
     let at = ids_at chunks (length fs) c.in_ok-slot.slot ∙ c.id_in.ensures in
     sym (none_home (own_chain c.args.self.now.eras) c.args.self.now.heads.items fs ids c.args.chunk_id c.last_above-before.result c.requires.chained c.chain_of-chain.result c.chain_of-chain.ensures.value
-    c.last_above-before.ensures (Some c.in_ok-slot.slot) (c.in_ok-slot.ensures ∙ (rw (c.deref.ensures.value, c.deref-2.ensures.value) at c.follower.ensures))
+    c.last_above-before.ensures (Some c.in_ok-slot.slot) (c.in_ok-slot.ensures ∙ (rw c.deref.ensures.value at c.follower.ensures))
     (λ s leads (has : id_at ids s ≡ Some c.args.chunk_id). c.if-id_in-chunk_id.true (same_Some _ _ (sym at ∙ ap (id_at ids) (same_Some c.in_ok-slot.slot s leads) ∙ has))))
 
 pub returns : goal.returns

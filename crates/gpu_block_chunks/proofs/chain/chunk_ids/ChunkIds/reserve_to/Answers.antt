@@ -23,7 +23,7 @@ returns-clause-found c = λ chunks found.
     let long = c.len-in-loop-self.ensures in
     let now = c.len-2.ensures in
     let rest = c.saturating_sub-more.ensures in
-    either c.lengthen.result c.lengthen.ensures.longer c.lengthen.ensures.same
+    either c.add_followers.result c.add_followers.ensures.longer c.add_followers.ensures.same
     (λ longer.
     subst (λ (xs : List (Option ℕ)). AreFound loop.eras heads xs chunks) (sym longer) (more_found loop.eras heads fs chunks more had (omega arith) (omega arith)))
     (λ same. subst (λ (xs : List (Option ℕ)). AreFound loop.eras heads xs chunks) (sym same) had)
