@@ -56,6 +56,7 @@ added s calls.SetCommitted = record { device_is = refl; calls_are = refl; questi
 pub record Tells (cs : List Call) (old new : CaptureState) : Type 0 where
   pub was : old.end ≡ Whole
   pub adds : Adds old new (answer_lines old.questions (flat_map answers_of cs)) (flat_map call_line cs) (length (flat_map answers_of cs))
+  pub room : HasRoom old → HasRoom new
 
 pub history : (cs : List Call) (old new : CaptureState) → Kept cs old new → new.end ≡ Whole → Tells cs old new
 history [] old new k w = record {
@@ -65,6 +66,7 @@ history [] old new k w = record {
     calls_are = ap (λ (s : CaptureState). s.calls) k ∙ sym (append-nil old.calls);
     questions_are = ap (λ (s : CaptureState). s.questions) k ∙ omega arith;
   };
+  room = λ h. subst HasRoom (sym k) h;
 }
 history (c ∷ cs) old new k w =
     let next = k.0 in
@@ -87,4 +89,5 @@ history (c ∷ cs) old new k w =
             rest.adds.calls_are ∙ ap (λ (d : List ℕ). d ++ flat_map call_line cs) lines ∙ append_assoc old.calls (call_line c) (flat_map call_line cs);
         questions_are = omega (arith, rest.adds.questions_are, asked, length-append (answers_of c) later);
       };
+      room = λ h. rest.room (subst HasRoom (sym one.2) one.1);
     }

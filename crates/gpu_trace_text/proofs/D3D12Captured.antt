@@ -85,7 +85,7 @@ own_setting_one (settings.Shared (shared.Heap size)) (settings.Tier b) f g e = a
 own_setting_one (settings.Shared (shared.Heap size)) (settings.Interface b) f g e = absurd (other e refl)
 own_setting_one s t f g e = absurd (other e refl)
 
-abbrev said : Words Setting Command Look
+abbrev pub said : Words Setting Command Look
 said = record {
   setting = setting.words;
   FitsSetting = setting.Fits;
@@ -101,17 +101,17 @@ said = record {
 
 -- ---- requests
 
-clean_category : (k : categories.Category) → IsClean (captured.category_word k)
+pub clean_category : (k : categories.Category) → IsClean (captured.category_word k)
 clean_category Buffer = clean_text (codes "buffer") refl
 clean_category Target = clean_text (codes "target") refl
 clean_category Texture = clean_text (codes "texture") refl
 
-category-same : (k : categories.Category) → captured.category_word k ≡ category_word (category_of k)
+pub category-same : (k : categories.Category) → captured.category_word k ≡ category_word (category_of k)
 category-same Buffer = refl
 category-same Target = refl
 category-same Texture = refl
 
-category-one : (a b : ResourceCategory) → category_word a ≡ category_word b → b ≡ a
+pub category-one : (a b : ResourceCategory) → category_word a ≡ category_word b → b ≡ a
 category-one resources.Buffer resources.Buffer e = refl
 category-one resources.RtvDsvTexture resources.RtvDsvTexture e = refl
 category-one resources.OtherTexture resources.OtherTexture e = refl

@@ -12,10 +12,10 @@ use Rattle.gpu_trace_text.specs.D3D12Numbers.{IsSeparator, AreNumbers, numbers_w
 use Rattle.gpu_trace_text.specs.D3D12Resource.{format_number, formats_word, clear_word, FitsFormats, FitsClear}
 use Rattle.gpu_trace_text.proofs.D3D12Parts.{IsSmall, as_many}
 
-colon : IsSeparator 58
+pub colon : IsSeparator 58
 colon = record { ascii = lit< tt; no_digit = λ r. omega (arith, r.1) }
 
-comma : IsSeparator 44
+pub comma : IsSeparator 44
 comma = record { ascii = lit< tt; no_digit = λ r. omega (arith, r.0) }
 
 -- ---- clear values
@@ -40,7 +40,7 @@ clear_spelled word ns v are spelled same four = ((subst AreNumbers (sym same) ar
 small_formats : (fs : List Format) → All IsSmall (map format_number fs) → All (λ f. f.0 < 2 ^ 32) fs
 small_formats fs h k d lt = subst IsSmall (get_or-map format_number fs k d 0 lt) (h k 0 (omega (arith, lt, length-map fs format_number)))
 
-are_numbers : (f : Format) (fs : List Format) → FitsFormats (f ∷ fs) → AreNumbers (map format_number (f ∷ fs))
+pub are_numbers : (f : Format) (fs : List Format) → FitsFormats (f ∷ fs) → AreNumbers (map format_number (f ∷ fs))
 are_numbers f fs fits = record { some = omega arith; fit = All-map IsSmall format_number (f ∷ fs) fits.fit }
 
 -- a word that is neither `none` nor numbers

@@ -10,3 +10,8 @@ pub mod Reading
 pub mod Captured
 pub mod MetalCaptured
 pub mod D3D12Captured
+pub mod CapturedTrace
+pub mod CapturedCalls
+pub mod MetalCalls
+pub mod D3D12Created
+pub mod D3D12Calls

@@ -30,3 +30,7 @@ pub mod D3D12Stage
 pub mod Captured
 pub mod MetalCaptured
 pub mod D3D12Captured
+pub mod CapturedTrace
+pub mod CapturedCalls
+pub mod MetalCalls
+pub mod D3D12Calls

@@ -1,6 +1,6 @@
 //! Laws of captures of DirectX 12, each the contract of a function that does nothing: what a capture wrote reads back.
 
-ghost use Rattle.std.specs.Prelude.{◌≡◌, ℕ, ◌<◌, ◌^◌, ◌++◌, List, Option};
+ghost use Rattle.std.specs.Prelude.{◌≡◌, ℕ, ◌<◌, ◌^◌, ◌++◌, List, Option, true, [], All};
 ghost use Rattle.gpu_capture.specs.declared.request.Request.TheVariants as requests;
 ghost use Rattle.gpu_capture.specs.declared.request.D3D12Request.{D3D12Request};
 ghost use Rattle.gpu_capture.specs.D3D12.{release_words};
@@ -16,6 +16,17 @@ ghost use Rattle.gpu_trace_text.specs.D3D12Line.{Means};
 ghost use Rattle.gpu_trace_text.specs.D3D12Setting.{words as setting_words, Fits as FitsSetting};
 ghost use Rattle.gpu_trace_text.specs.declared.d3d12.setting.Setting.{Setting};
 ghost use Rattle.gpu_trace_text.specs.declared.dialect.Line.TheVariants as lines;
+ghost use Rattle.gpu_device.specs.declared.d3d12.types.ResourceHeapTier.{ResourceHeapTier};
+ghost use Rattle.gpu_capture.specs.declared.capture.CaptureEnd.TheVariants.{Whole};
+ghost use Rattle.gpu_capture.specs.declared.device.BlockSizes.{BlockSizes};
+ghost use Rattle.gpu_capture.specs.CaptureState.{CaptureState, text};
+ghost use Rattle.gpu_capture.specs.Devices.{d3d12_lines};
+ghost use Rattle.gpu_capture.specs.History.{Call, Kept};
+ghost use Rattle.gpu_capture.specs.Keeps.{Keeps, blank, with_lines};
+ghost use Rattle.gpu_capture.specs.Requests.{committed_line};
+ghost use Rattle.gpu_trace_text.specs.Any.{d3d12_line};
+ghost use Rattle.gpu_trace_text.specs.D3D12Calls.{FitsCall, IsCall, IsCreate, refuse_setting, device_settings};
+ghost use Rattle.gpu_trace_text.specs.CapturedTrace.{IsOfSort, parts_of};
 
 use std::alloc::Global;
 
@@ -32,6 +43,13 @@ pub fn move_reads_back(alloc: Global)
     ensures { (from to : ℕ) (r : D3D12Request) (rest : List ℕ) → from < 2 ^ 64 → to < 2 ^ 64
         → FitsCaptured r
         → BeginsWith Means (IsMove from to r) (move_line from to (requests.D3D12 r) ++ rest) rest }
+{}
+
+/// A committed resource: a buffer of as many whole units of 65,536 bytes.
+#[tactic(auto, using(crate::proofs::D3D12Created::create_reads))]
+pub fn committed_reads_back(alloc: Global)
+    ensures { (number : ℕ) (r : D3D12Request) (rest : List ℕ) → number < 2 ^ 64 → FitsCaptured r
+        → BeginsWith Means (IsCreate number r) (committed_line number r ++ rest) rest }
 {}
 
 /// A free.
@@ -86,4 +104,17 @@ pub fn new_reads_back()
 pub fn destroy_reads_back()
     ensures { (rest : List ℕ) → BeginsWith Means (λ l. l ≡ lines.Destroy)
         (line_of destroy_words ++ rest) rest }
+{}
+
+/// A whole trace: what a capture wrote of a device and of its calls, all of which it kept, is read as the device's settings, the questions that
+/// were refused, and these calls, and as nothing else.
+#[tactic(auto, using(crate::proofs::D3D12Calls::trace_reads))]
+pub fn trace_reads_back(alloc: Global)
+    ensures { (tier : ResourceHeapTier) (sizes : BlockSizes) (questions : ℕ) (calls : List Call)
+        (begun done : CaptureState)
+        → Keeps blank (with_lines blank (d3d12_lines tier sizes) [] questions) begun
+        → Kept calls begun done → done.end ≡ Whole
+        → All FitsSetting (device_settings tier sizes) → All FitsCall calls
+        → IsOfSort Means IsCall d3d12_line (parts_of refuse_setting (device_settings tier sizes) questions calls)
+        (text done true) }
 {}

@@ -1,0 +1,140 @@
+-- A whole trace that a capture wrote reads back, in each sort of traces.
+use Rattle.std.proofs.Common.{◌≡◌, refl, sym, ap, ◌∙◌, subst, ℕ, ◌+◌, ◌<◌, ◌^◌, List, [], ◌∷◌, ◌++◌, length, map, map-append, append_assoc, append-nil, length-append, true, arith}
+use Rattle.std.specs.List.{flat_map, All}
+use Rattle.std.proofs.lemmas.List.Concat.{flat_map-append}
+use Rattle.std.proofs.lemmas.List.Elements.{All-nil, All-cons, All-head, All-tail, All-append}
+use Rattle.gpu_capture.specs.declared.answer.Answer.{Answer}
+use Rattle.gpu_capture.specs.declared.answer.Answer.TheVariants.{Granted, Refused}
+use Rattle.gpu_capture.specs.declared.capture.CaptureEnd.{CaptureEnd}
+use Rattle.gpu_capture.specs.declared.capture.CaptureEnd.TheVariants.{Whole}
+use Rattle.gpu_capture.specs.Answers.{answer_lines}
+use Rattle.gpu_capture.specs.CaptureState.{CaptureState, HasRoom, new_line, last_line, text}
+use Rattle.gpu_capture.specs.History.{Call, Kept, RefusedQuestion, call_line, answers_of, refused_in}
+use Rattle.gpu_capture.specs.Keeps.{Keeps, blank, with_lines}
+use Rattle.gpu_capture.specs.Line.{line_of}
+use Rattle.gpu_capture.specs.Words.{refuse_words}
+use Rattle.gpu_capture.proofs.Histories.{history, kept_whole}
+use Rattle.gpu_trace_text.specs.Captured.{BeginsWith}
+use Rattle.gpu_trace_text.specs.CapturedTrace.{Part, Sets, Makes, Calls, Ends, parts_of, FitsAnswer, IsPart, ReadsAs}
+use Rattle.gpu_trace_text.specs.Dialect.{new_words, destroy_words}
+use Rattle.gpu_trace_text.specs.Setting.{FitsRefusal}
+use Rattle.gpu_trace_text.specs.declared.dialect.Line.{Line}
+use Rattle.gpu_trace_text.specs.declared.dialect.Line.TheVariants as lines
+
+-- behind a device's lines stands `new`
+new_behind : (device : List ℕ) → 0 < length device → new_line device ≡ line_of new_words
+new_behind [] some = absurd (omega arith)
+new_behind (b ∷ bs) some = refl
+
+-- what a sort of traces reads
+pub record Reader {S C O : Type 0} (Means : List ℕ → Line S C O → Type 0) (IsCall : Call → Line S C O → Type 0) : Type 1 where
+  pub words : S → List (List ℕ)
+  pub FitsSetting : S → Type 0
+  pub FitsCall : Call → Type 0
+  pub refuse : RefusedQuestion → S
+  pub refuse_words_are : (q : RefusedQuestion) → words (refuse q) ≡ refuse_words q.question q.refusal
+  pub refuse_fits : (q : RefusedQuestion) → 0 < q.question → q.question < 2 ^ 64 → FitsRefusal q.refusal → FitsSetting (refuse q)
+  pub answers_fit : (c : Call) → FitsCall c → All FitsAnswer (answers_of c)
+  pub setting_reads : (s : S) (rest : List ℕ) → FitsSetting s → BeginsWith Means (λ l. l ≡ lines.Configures s) (line_of (words s) ++ rest) rest
+  pub new_reads : (rest : List ℕ) → BeginsWith Means (λ l. l ≡ lines.New) (line_of new_words ++ rest) rest
+  pub call_reads : (c : Call) (rest : List ℕ) → FitsCall c → BeginsWith Means (IsCall c) (call_line c ++ rest) rest
+  pub destroy_reads : (rest : List ℕ) → BeginsWith Means (λ l. l ≡ lines.Destroy) (line_of destroy_words ++ rest) rest
+
+module _ {S C O : Type 0} (Means : List ℕ → Line S C O → Type 0) (IsCall : Call → Line S C O → Type 0) (r : Reader Means IsCall) where
+  abbrev pub setting_line : S → List ℕ
+  setting_line s = line_of (r.words s)
+
+  -- ---- line after line
+
+  calls_read : (cs : List Call) → All r.FitsCall cs → ReadsAs Means IsCall (map Calls cs ++ Ends ∷ []) (flat_map call_line cs ++ line_of destroy_words)
+  calls_read [] f = ([], subst (λ (t : List ℕ). BeginsWith Means (IsPart Means IsCall Ends) t []) (append-nil (line_of destroy_words)) (r.destroy_reads []), refl)
+  calls_read (c ∷ cs) f =
+      let rest = flat_map call_line cs ++ line_of destroy_words in (
+        rest,
+        subst (λ (t : List ℕ). BeginsWith Means (IsPart Means IsCall (Calls c)) t rest) (sym (append_assoc (call_line c) (flat_map call_line cs) (line_of destroy_words)))
+            (r.call_reads c rest (All-head r.FitsCall c cs f)),
+        calls_read cs (All-tail r.FitsCall c cs f),
+      )
+
+  settings_read : (ss : List S) (ps : List (Part S)) (rest : List ℕ) → All r.FitsSetting ss → ReadsAs Means IsCall ps rest
+      → ReadsAs Means IsCall (map Sets ss ++ ps) (flat_map setting_line ss ++ rest)
+  settings_read [] ps rest f reads = reads
+  settings_read (s ∷ ss) ps rest f reads =
+      let behind = flat_map setting_line ss ++ rest in (
+        behind,
+        subst (λ (t : List ℕ). BeginsWith Means (IsPart Means IsCall (Sets s)) t behind) (sym (append_assoc (setting_line s) (flat_map setting_line ss) rest))
+            (r.setting_reads s behind (All-head r.FitsSetting s ss f)),
+        settings_read ss ps rest (All-tail r.FitsSetting s ss f) reads,
+      )
+
+  -- ---- the questions that were refused
+
+  abbrev refusals : ℕ → List Answer → List S
+  refusals before answers = map r.refuse (refused_in before answers)
+
+  refusals_written : (before : ℕ) (answers : List Answer) → answer_lines before answers ≡ flat_map setting_line (refusals before answers)
+  refusals_written before [] = refl
+  refusals_written before (Granted ∷ rest) = refusals_written (before + 1) rest
+  refusals_written before (Refused refusal ∷ rest) =
+      ap (λ (ls : List ℕ). line_of (refuse_words (before + 1) refusal) ++ ls) (refusals_written (before + 1) rest)
+      ∙ ap (λ (ws : List (List ℕ)). line_of ws ++ flat_map setting_line (refusals (before + 1) rest)) (sym (r.refuse_words_are (record { question = before + 1; refusal = refusal })))
+
+  refusals_fit : (before : ℕ) (answers : List Answer) → All FitsAnswer answers → before + length answers < 2 ^ 64 → All r.FitsSetting (refusals before answers)
+  refusals_fit before [] f few = All-nil r.FitsSetting
+  refusals_fit before (Granted ∷ rest) f few = refusals_fit (before + 1) rest (All-tail FitsAnswer Granted rest f) (omega arith)
+  refusals_fit before (Refused refusal ∷ rest) f few =
+      All-cons r.FitsSetting (r.refuse (record { question = before + 1; refusal = refusal })) (refusals (before + 1) rest)
+      (r.refuse_fits (record { question = before + 1; refusal = refusal }) (omega arith) (omega arith) (All-head FitsAnswer (Refused refusal) rest f))
+      (refusals_fit (before + 1) rest (All-tail FitsAnswer (Refused refusal) rest f) (omega arith))
+
+  answers_all_fit : (cs : List Call) → All r.FitsCall cs → All FitsAnswer (flat_map answers_of cs)
+  answers_all_fit [] f = All-nil FitsAnswer
+  answers_all_fit (c ∷ cs) f =
+      All-append FitsAnswer (answers_of c) (flat_map answers_of cs) (r.answers_fit c (All-head r.FitsCall c cs f)) (answers_all_fit cs (All-tail r.FitsCall c cs f))
+
+  -- ---- the whole
+
+  -- what a capture wrote behind the first lines of its device is read as its settings and its calls
+  pub whole_trace : (first : List ℕ) (settings : List S) (questions : ℕ) (cs : List Call) (begun done : CaptureState)
+      → Keeps blank (with_lines blank (first ++ flat_map setting_line settings) [] questions) begun → Kept cs begun done → done.end ≡ Whole
+      → 0 < length (first ++ flat_map setting_line settings) → All r.FitsSetting settings → All r.FitsCall cs
+      → (rest : List ℕ) × (text done true ≡ first ++ rest) × ReadsAs Means IsCall (parts_of r.refuse settings questions cs) rest
+  whole_trace first settings questions cs begun done begins kept whole some fit calls_fit =
+      let told = history cs begun done kept whole in
+      let start = kept_whole blank (with_lines blank (first ++ flat_map setting_line settings) [] questions) begun begins told.was in
+      let answers = flat_map answers_of cs in
+      let asked : begun.questions ≡ questions = ap (λ (s : CaptureState). s.questions) start.2 in
+      let room = told.room (subst HasRoom (sym start.2) start.1) in
+      let few : questions + length answers < 2 ^ 64 = omega (arith, room.count, told.adds.questions_are, asked) in
+      let refused = refusals questions answers in
+      let refused_fit = refusals_fit questions answers (answers_all_fit cs calls_fit) few in
+      let all = settings ++ refused in
+      let device : done.device ≡ first ++ flat_map setting_line all =
+      told.adds.device_is
+      ∙ ap (λ (d : List ℕ). d ++ answer_lines begun.questions answers) (ap (λ (s : CaptureState). s.device) start.2)
+      ∙ ap (λ (n : ℕ). (first ++ flat_map setting_line settings) ++ answer_lines n answers) asked
+      ∙ ap (λ (d : List ℕ). (first ++ flat_map setting_line settings) ++ d) (refusals_written questions answers)
+      ∙ append_assoc first (flat_map setting_line settings) (flat_map setting_line refused)
+      ∙ ap (λ (d : List ℕ). first ++ d) (sym (flat_map-append setting_line settings refused)) in
+      let calls : done.calls ≡ flat_map call_line cs = told.adds.calls_are ∙ ap (λ (d : List ℕ). d ++ flat_map call_line cs) (ap (λ (s : CaptureState). s.calls) start.2) in
+      let long : 0 < length done.device =
+      omega (
+        arith,
+        some,
+        ap length device,
+        length-append first (flat_map setting_line all),
+        length-append first (flat_map setting_line settings),
+        ap length (flat_map-append setting_line settings refused),
+        length-append (flat_map setting_line settings) (flat_map setting_line refused),
+      ) in
+      let last = flat_map call_line cs ++ line_of destroy_words in
+      let rest = flat_map setting_line all ++ (line_of new_words ++ last) in (
+        rest,
+        ap (λ (e : CaptureEnd). done.device ++ (new_line done.device ++ (done.calls ++ last_line e true))) whole
+            ∙ ap (λ (n : List ℕ). done.device ++ (n ++ (done.calls ++ line_of destroy_words))) (new_behind done.device long)
+            ∙ ap (λ (d : List ℕ). done.device ++ (line_of new_words ++ (d ++ line_of destroy_words))) calls
+            ∙ ap (λ (d : List ℕ). d ++ (line_of new_words ++ last)) device
+            ∙ append_assoc first (flat_map setting_line all) (line_of new_words ++ last),
+        settings_read all (Makes ∷ (map Calls cs ++ Ends ∷ [])) (line_of new_words ++ last) (All-append r.FitsSetting settings refused fit refused_fit)
+            (last, r.new_reads last, calls_read cs calls_fit),
+      )
