@@ -18,6 +18,7 @@
 #[cfg(test)]
 extern crate self as pilhangko;
 
+mod capture;
 pub mod d3d12;
 mod defragmentation;
 mod error;

@@ -3,12 +3,13 @@
 use super::abi::{Buffer, Image, MemoryRequirements};
 use super::allocation::{Allocation, AllocationBlock, Held};
 use super::answer::{Answer, Refusal};
-use super::capture::{Answers, Bounds, Capture};
+use super::budgets::Bounds;
 use super::device::{Device, Purpose};
 use super::machine::{Machine, Progress, Question};
 use super::options::{AllocationOptions, Chain};
 use super::pool::{lock, Common, PoolCreateDesc};
 use super::visit::LiveBlock;
+use crate::capture::{has_line, Answers, Capture};
 use crate::error::{check, copied};
 use crate::log::Log;
 use crate::raw::{AllocatorPiece, Preference, DRIVER_REFUSED, FAILED_TO_MAP, NOT_LIVE};
@@ -114,7 +115,7 @@ impl Allocator {
             device_address: desc.buffer_device_address,
             memory_type_bits: u32::MAX,
             next: None,
-            capture: desc.capture.then(|| Capture::new(device, allocation_sizes)).transpose()?,
+            capture: desc.capture.then(|| Capture::of_allocator(device, allocation_sizes)).transpose()?,
             log: Log::new(desc.debug_settings, desc.logger.as_ref()),
         };
         allocator.machine.set_smaller_blocks(!desc.whole_blocks && !desc.capture);
@@ -124,7 +125,7 @@ impl Allocator {
 
     /// The pool over a machine that was made for it.
     pub(super) fn apart(&self, desc: &PoolCreateDesc, machine: Machine) -> Result<Self> {
-        let capture = desc.capture.then(|| Capture::new(self.device(), &desc.allocation_sizes)).transpose()?;
+        let capture = desc.capture.then(|| Capture::of_allocator(self.device(), &desc.allocation_sizes)).transpose()?;
         Ok(Allocator {
             machine,
             owner: next_owner(),
@@ -190,15 +191,14 @@ impl Allocator {
         bounds: &Bounds,
         answers: &Answers,
     ) {
-        let Some(capture) = &mut self.capture else { return };
+        let (Some(capture), true) = (&mut self.capture, has_line(result)) else { return };
         let narrowed = match result {
-            Err(AllocationError::HostOutOfMemory | AllocationError::InvalidAllocationCreateDesc) => return,
             Err(_) if by_flags => return,
             Ok(it) if by_flags => of_type(desc, it.memory_type_index()),
             _ => desc.clone(),
         };
-        capture.bounded(bounds);
-        capture.allocated(self.requests, &narrowed, answers);
+        capture.bounded(*bounds);
+        capture.allocator_allocated(self.requests, &narrowed, answers);
     }
 
     /// Frees an allocation; its block goes back to the driver where it is left empty and isn't the only shared one of its memory type. It

@@ -2,7 +2,6 @@
 
 use super::abi::PhysicalDeviceMemoryProperties;
 use super::allocator::Allocator;
-use super::capture::Bounds;
 use super::device::Device;
 use super::pool::lock;
 use super::resource_abi::{
@@ -34,6 +33,9 @@ pub struct Heap {
     /// What the driver tells of it, where VK_EXT_memory_budget is enabled.
     pub budget: Option<HeapBudget>,
 }
+
+/// The bounds of the memory types.
+pub(super) type Bounds = [Option<u64>; 32];
 
 /// Who tells of the heaps.
 #[derive(Clone, Copy, Debug)]
@@ -129,7 +131,7 @@ impl Allocator {
     /// Records them as they are now.
     pub(super) fn record_bounds(&self) {
         if let Some(capture) = &self.capture {
-            capture.bounded(&self.captured_bounds());
+            capture.bounded(self.captured_bounds());
         }
     }
 

@@ -60,7 +60,7 @@ impl Allocator {
         let to = self.machine.propose_move(&piece, &desc)?;
         self.record_bounds();
         if let Some(capture) = &mut self.capture {
-            capture.moved(number, self.requests + 1, &desc);
+            capture.allocator_moved(number, self.requests + 1, &desc);
         }
         let Some(to) = to else { return Ok(None) };
         self.requests += 1;

@@ -59,12 +59,12 @@ pub use abi::{
 pub(crate) use allocator::next_owner;
 pub(crate) use machine::location_number;
 
+pub use crate::capture::{Capture, CaptureEnd};
 pub use crate::defragmentation::{DefragmentationStatistics, MoveKey};
 pub use crate::statistics::TypeStatistics;
 pub use allocation::{Allocation, AllocationBlock};
 pub use allocator::{AllocationCreateDesc, AllocationScheme, Allocator, AllocatorCreateDesc};
 pub use budgets::{Heap, HeapBudget};
-pub use capture::{Capture, CaptureEnd};
 pub use defragmentation::{Defragmentation, Move};
 pub use device::{Device, DeviceLimits};
 pub use options::{AllocationOptions, Chain};
