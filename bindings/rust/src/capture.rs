@@ -4,6 +4,7 @@
 use crate::error::{check, check_unrefused};
 use crate::raw::{self, CaptureAnswer, Handle};
 use crate::{AllocationError, Result};
+use std::cell::Cell;
 use std::fmt;
 use std::io;
 use std::iter;
@@ -30,6 +31,8 @@ pub enum CaptureEnd {
 pub struct Capture {
     handle: Handle,
     is_destroyed: bool,
+    /// Behind how many changes of what they follow from it has the bounds of memory types.
+    changes: Cell<u64>,
 }
 
 /// What the driver answered to the questions of a request. One that is captured has four at most: two attempts in Vulkan, whose allocator has no
@@ -78,7 +81,7 @@ pub(crate) fn has_line<T>(result: &Result<T>) -> bool {
 impl Capture {
     /// The capture that a call of the library begins in an empty handle.
     pub(crate) fn begun(begin: impl FnOnce(*mut Handle) -> u32) -> Result<Self> {
-        let capture = Capture { handle: Handle::empty(), is_destroyed: false };
+        let capture = Capture { handle: Handle::empty(), is_destroyed: false, changes: Cell::new(0) };
         check(begin(capture.handle.as_ptr()))?;
         Ok(capture)
     }
@@ -102,8 +105,14 @@ impl Capture {
         });
     }
 
-    /// Records the bounds of the memory types, from the first on, that are others than before.
-    pub(crate) fn bounded(&self, bounds: impl IntoIterator<Item = Option<u64>>) {
+    /// Whether it has the bounds of memory types behind so many changes of what they follow from; an allocator begins without bounds, at 0.
+    pub(crate) fn has_bounds(&self, changes: u64) -> bool {
+        self.changes.get() == changes
+    }
+
+    /// Records the bounds of memory types, from the first on, behind so many changes. The library leaves out those that are as before.
+    pub(crate) fn bounded(&self, changes: u64, bounds: impl IntoIterator<Item = Option<u64>>) {
+        self.changes.set(changes);
         for (memory_type, bound) in bounds.into_iter().enumerate() {
             // SAFETY: the handle is this capture's alone: it isn't `Sync`.
             check_unrefused(unsafe {

@@ -177,7 +177,7 @@ impl Allocator {
         if let (Ok(it), true) = (&mut result, options.user_data != 0) {
             self.set_user_data(it, options.user_data).expect("a new piece is live");
         }
-        self.record(&desc, by_flags, &result, &bounds, &answers);
+        self.record(&desc, by_flags, &result, bounds.as_ref(), &answers);
         result
     }
 
@@ -188,7 +188,7 @@ impl Allocator {
         desc: &AllocationCreateDesc<'_>,
         by_flags: bool,
         result: &Result<Allocation>,
-        bounds: &Bounds,
+        bounds: Option<&Bounds>,
         answers: &Answers,
     ) {
         let (Some(capture), true) = (&mut self.capture, has_line(result)) else { return };
@@ -197,7 +197,9 @@ impl Allocator {
             Ok(it) if by_flags => of_type(desc, it.memory_type_index()),
             _ => desc.clone(),
         };
-        capture.bounded(*bounds);
+        if let Some(bounds) = bounds {
+            bounds.record(capture);
+        }
         capture.allocator_allocated(self.requests, &narrowed, answers);
     }
 

@@ -7,6 +7,7 @@ use super::pool::lock;
 use super::resource_abi::{
     GetPhysicalDeviceMemoryProperties2, MemoryBudgetProperties, PhysicalDeviceMemoryProperties2,
 };
+use crate::capture::Capture;
 use crate::error::internal;
 use crate::Result;
 use std::ffi::c_void;
@@ -34,8 +35,20 @@ pub struct Heap {
     pub budget: Option<HeapBudget>,
 }
 
-/// The bounds of the memory types.
-pub(super) type Bounds = [Option<u64>; 32];
+/// The bounds of the memory types, and behind how many changes of what they follow from.
+#[derive(Debug)]
+pub(super) struct Bounds {
+    of_types: [Option<u64>; 32],
+    types: usize,
+    changes: u64,
+}
+
+impl Bounds {
+    /// Hands them to a capture.
+    pub(super) fn record(&self, capture: &Capture) {
+        capture.bounded(self.changes, self.of_types[..self.types].iter().copied());
+    }
+}
 
 /// Who tells of the heaps.
 #[derive(Clone, Copy, Debug)]
@@ -118,20 +131,23 @@ impl Allocator {
         self.machine.follow(&lock(&common));
     }
 
-    /// The bounds of memory types by which the next request is served, where it is captured. A trace bounds no heaps, and not how many blocks there
-    /// are: of a heap each memory type has what the others leave, and where no block may come each has what it holds.
-    pub(super) fn captured_bounds(&self) -> Bounds {
-        let (mut bounds, types) = ([None; 32], self.device().memory_types().len());
-        if self.capture.is_some() {
-            (0..types).for_each(|index| bounds[index] = self.bound_of(index));
+    /// The bounds of memory types by which the next request is served, where a capture may have others. A trace bounds no heaps, and not how many
+    /// blocks there are: of a heap each memory type has what the others leave, and where no block may come each has what it holds.
+    pub(super) fn captured_bounds(&self) -> Option<Bounds> {
+        let changes = self.machine.changes;
+        // a request costs little behind one that changed none of this, however many memory types there are
+        if self.capture.as_ref()?.has_bounds(changes) {
+            return None;
         }
-        bounds
+        let (mut of_types, types) = ([None; 32], self.device().memory_types().len());
+        (0..types).for_each(|index| of_types[index] = self.bound_of(index));
+        Some(Bounds { of_types, types, changes })
     }
 
     /// Records them as they are now.
     pub(super) fn record_bounds(&self) {
-        if let Some(capture) = &self.capture {
-            capture.bounded(self.captured_bounds());
+        if let (Some(capture), Some(bounds)) = (&self.capture, self.captured_bounds()) {
+            bounds.record(capture);
         }
     }
 

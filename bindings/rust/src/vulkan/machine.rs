@@ -93,6 +93,8 @@ pub(super) struct Machine {
     device: Device,
     blocks: usize,
     most_blocks: Option<usize>,
+    /// How often anything changed that bounds of memory types follow from: a budget, what the others leave, which blocks there are.
+    pub(super) changes: u64,
     pub(super) share: Share,
 }
 
@@ -121,7 +123,7 @@ impl Machine {
                 &raw_settings(device, sizes),
             )
         })?;
-        Ok(Machine { handle, device: device.clone(), blocks: 0, most_blocks: None, share })
+        Ok(Machine { handle, device: device.clone(), blocks: 0, most_blocks: None, changes: 0, share })
     }
 
     /// The device.
@@ -286,6 +288,7 @@ impl Machine {
     /// Bounds the sum of the sizes of a memory type's blocks in bytes, or takes the bound away.
     pub(super) fn set_budget(&mut self, memory_type: usize, budget: Option<u64>) -> Result<()> {
         let bytes = budget.unwrap_or(0);
+        self.changes += 1;
         // SAFETY: the handle is this machine's alone.
         check(unsafe {
             raw::pilhangko_raw_allocator_set_budget(self.handle.as_ptr(), memory_type, budget.is_some(), bytes)

@@ -151,14 +151,16 @@ impl Machine {
         if !self.share.is_stale(common) {
             return;
         }
+        self.changes += 1;
         self.set_most_blocks(self.share.most_blocks(common, self.device()));
         for heap in 0..self.device().memory_heaps().len() {
             self.set_heap_limit(heap, self.share.limit(common, heap));
         }
     }
 
-    /// Tells the others what it holds.
+    /// Tells the others what it holds, where a block came or went.
     pub(super) fn tell(&mut self, common: &mut Common) {
+        self.changes += 1;
         let mut held = [0; 16];
         for (index, it) in self.device().memory_types().iter().enumerate() {
             held[it.heap_index as usize] += self.type_capacity(index).unwrap_or(0);

@@ -65,3 +65,39 @@ fn many_blocks_are_as_quick_as_the_library() {
     drop(allocator);
     driver.assert_left_empty();
 }
+
+/// A capture is handed bounds behind a change of what they follow from alone: a budget, a limit, or which blocks there are.
+#[test]
+fn bounds_are_read_behind_changes_alone() {
+    let driver = FakeDriver::new(&[(1, 0), (6, 0)], &[100 << 20], 64);
+    let allocation_sizes = AllocationSizes::new(4 << 20, 4 << 20);
+    let desc = AllocatorCreateDesc { capture: true, allocation_sizes, ..AllocatorCreateDesc::new(driver.device()) };
+    let mut a = Allocator::new(&desc).unwrap();
+    let request = AllocationCreateDesc {
+        name: "piece",
+        requirements: MemoryRequirements { size: 256, alignment: 1, memory_type_bits: 3 },
+        location: MemoryLocation::GpuOnly,
+        linear: true,
+        allocation_scheme: AllocationScheme::GpuAllocatorManaged,
+    };
+    let own =
+        AllocationCreateDesc { allocation_scheme: AllocationScheme::DedicatedBuffer(Buffer(1)), ..request.clone() };
+    assert!(a.captured_bounds().is_none());
+    let _leaks = a.allocate(&request).unwrap();
+    assert!(a.captured_bounds().is_some()); // a block came
+    let mut piece = a.allocate(&request).unwrap();
+    a.rename_allocation(&mut piece, "other").unwrap();
+    assert!(a.propose_move(&piece, &request).unwrap().is_none());
+    a.free(piece).unwrap();
+    assert!(a.captured_bounds().is_none());
+    let recorded =
+        |a: &Allocator| a.captured_bounds().is_some() && a.capture().is_some() && a.captured_bounds().is_none();
+    a.set_budget(1, Some(1)).unwrap();
+    assert!(recorded(&a));
+    a.set_heap_limit(0, Some(99 << 20)).unwrap();
+    assert!(recorded(&a));
+    let own = a.allocate(&own).unwrap(); // a block comes
+    assert!(recorded(&a));
+    a.free(own).unwrap(); // and goes
+    assert!(recorded(&a));
+}
