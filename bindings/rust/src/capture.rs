@@ -20,13 +20,16 @@ pub enum CaptureEnd {
     HostOutOfMemory,
 }
 
-/// What was asked of an allocator since it was made, and what its driver refused, as a device trace: `gpu_trace` replays it over a
-/// simulated device, with the same memory types, slots, places and causes of refusal. `Display` prints the trace.
+/// What was asked of an allocator since it was made, and what its driver refused, as a device trace or a DirectX 12 trace: `gpu_trace` replays it
+/// over a simulated device, with the same memory types, slots, places and causes of refusal. `Display` prints the trace.
 ///
 /// Allocations, proposed moves, frees and renamings are recorded, and budgets where an allocation or a move finds them, `Allocator::capture`
 /// shows them, or at the end: of several that were set in turn the last, where it is another than before. Null allocations, allocations of other
 /// allocators, invalid requests and those that the host had no memory for are left out: they change nothing. A name is brought into a trace's
 /// alphabet: `_` stands for each other byte and for an empty name, and it is cut at 64 bytes.
+///
+/// Of DirectX 12's resources a committed one is recorded, with its release, as a buffer of whole units of 65,536 bytes, and of a placed one its
+/// allocation: where the device refuses to place it, that is freed.
 #[derive(Debug)]
 pub struct Capture {
     handle: Handle,

@@ -856,7 +856,35 @@ extern "C" {
         name: *const u8,
         name_length: usize,
     ) -> u32;
+    pub(crate) fn pilhangko_raw_capture_of_heaps(capture: *mut Handle, settings: *const HeapsSettings) -> u32;
+    pub(crate) fn pilhangko_raw_capture_heaps_allocated(
+        capture: *mut Handle,
+        number: u64,
+        request: *const HeapsRequest,
+        name: *const u8,
+        name_length: usize,
+        answers: *const CaptureAnswer,
+        answer_count: usize,
+    ) -> u32;
+    pub(crate) fn pilhangko_raw_capture_heaps_committed(
+        capture: *mut Handle,
+        number: u64,
+        request: *const HeapsRequest,
+        name: *const u8,
+        name_length: usize,
+        answers: *const CaptureAnswer,
+        answer_count: usize,
+    ) -> u32;
+    pub(crate) fn pilhangko_raw_capture_heaps_moved(
+        capture: *mut Handle,
+        from: u64,
+        to: u64,
+        request: *const HeapsRequest,
+        name: *const u8,
+        name_length: usize,
+    ) -> u32;
     pub(crate) fn pilhangko_raw_capture_freed(capture: *mut Handle, number: u64) -> u32;
+    pub(crate) fn pilhangko_raw_capture_released(capture: *mut Handle, number: u64) -> u32;
     pub(crate) fn pilhangko_raw_capture_renamed(
         capture: *mut Handle,
         number: u64,

@@ -148,9 +148,11 @@ fn of_the_vulkan_allocator() {
     assert_eq!(held(), 0);
 }
 
-/// Makes, renames and frees some allocations of a captured allocator, or of a pool: how many calls were refused, how far the capture goes, and
-/// whether it has all that were made.
-fn captured_run(device: Device, of_a_pool: bool) -> Result<(usize, CaptureEnd, bool)> {
+/// What came of a run that is captured: how many calls were refused, how far the capture goes, and whether it has all that were made.
+type Captured = (usize, CaptureEnd, bool);
+
+/// Makes, renames and frees some allocations of a captured allocator, or of a pool.
+fn captured_run(device: Device, of_a_pool: bool) -> Result<Captured> {
     let mut allocator =
         Allocator::new(&AllocatorCreateDesc { capture: !of_a_pool, ..AllocatorCreateDesc::new(device) })?;
     if of_a_pool {
@@ -175,16 +177,15 @@ fn captured_run(device: Device, of_a_pool: bool) -> Result<(usize, CaptureEnd, b
     Ok((errors.len(), capture.end(), has_all))
 }
 
-/// Where the request is the capture's, the capture ends and no call fails; else one call fails, and the capture hasn't it.
-fn of_captures(of_a_pool: bool) {
+/// Each request for host memory of a run is refused in turn. Where it is the capture's, the capture ends and no call fails; else one call fails, and
+/// the capture hasn't it.
+fn of_captures(run: impl Fn() -> Result<Captured>) {
     let (mut not_made, mut failed, mut ended) = (0, 0, 0);
     for nth in 1.. {
-        let driver = FakeDriver::new(&[(1, 0), (7, 0)], &[1 << 30], 64);
         refuse(nth);
-        let run = captured_run(driver.device(), of_a_pool);
+        let run = run();
         let is_refused = has_refused();
         refuse(0);
-        driver.assert_left_empty();
         assert_eq!(held(), 0);
         match run {
             Err(error) => {
@@ -206,13 +207,15 @@ fn of_captures(of_a_pool: bool) {
 }
 
 #[test]
-fn of_an_allocators_capture() {
-    of_captures(false);
-}
-
-#[test]
-fn of_a_pools_capture() {
-    of_captures(true);
+fn of_the_vulkan_allocators_captures() {
+    for of_a_pool in [false, true] {
+        of_captures(|| {
+            let driver = FakeDriver::new(&[(1, 0), (7, 0)], &[1 << 30], 64);
+            let run = captured_run(driver.device(), of_a_pool);
+            driver.assert_left_empty();
+            run
+        });
+    }
 }
 
 #[test]
@@ -405,9 +408,26 @@ fn of_a_defragmentation() {
 }
 
 #[cfg(target_arch = "x86_64")]
+fn d3d12_resource<'a>(
+    resource_desc: &'a crate::d3d12::ResourceDesc,
+    resource_type: &'a crate::d3d12::ResourceType<'a>,
+) -> crate::d3d12::ResourceCreateDesc<'a> {
+    crate::d3d12::ResourceCreateDesc {
+        name: NAME,
+        memory_location: MemoryLocation::GpuOnly,
+        resource_category: resource_desc.into(),
+        resource_desc,
+        castable_formats: &[],
+        clear_value: None,
+        initial_state_or_layout: crate::d3d12::ResourceStateOrBarrierLayout::ResourceState(0),
+        resource_type,
+    }
+}
+
+#[cfg(target_arch = "x86_64")]
 #[test]
 fn of_the_d3d12_allocator() {
-    use crate::d3d12::{self, ResourceCategory, ResourceDesc, ResourceStateOrBarrierLayout, ResourceType};
+    use crate::d3d12::{self, ResourceDesc, ResourceType};
     let device = fake_d3d12::FakeDevice::new(2, 0);
     let desc = d3d12::AllocatorCreateDesc::new(device.version());
     let (mut allocator, refusals) = in_turn(&mut (), |()| d3d12::Allocator::new(&desc), |()| ());
@@ -416,16 +436,7 @@ fn of_the_d3d12_allocator() {
     let own = ResourceType::Committed { heap_properties: &properties, heap_flags: 0 };
     let mut live = Vec::new();
     for resource_type in [&ResourceType::Placed, &own].into_iter().cycle().take(40) {
-        let wanted = d3d12::ResourceCreateDesc {
-            name: NAME,
-            memory_location: MemoryLocation::GpuOnly,
-            resource_category: ResourceCategory::Buffer,
-            resource_desc: &buffer,
-            castable_formats: &[],
-            clear_value: None,
-            initial_state_or_layout: ResourceStateOrBarrierLayout::ResourceState(0),
-            resource_type,
-        };
+        let wanted = d3d12_resource(&buffer, resource_type);
         let (capacity, questions) = (allocator.capacity(), device.state().questions);
         let unchanged = |it: &d3d12::Allocator| {
             assert_eq!((it.capacity(), device.state().questions), (capacity, questions));
@@ -442,6 +453,50 @@ fn of_the_d3d12_allocator() {
     drop(desc);
     device.assert_left_empty();
     assert_eq!(held(), 0);
+}
+
+/// Makes pieces, renames them and asks for moves of them, makes a placed resource and committed ones, and lets all go.
+#[cfg(target_arch = "x86_64")]
+fn captured_d3d12_run(device: &fake_d3d12::FakeDevice) -> Result<Captured> {
+    use crate::d3d12::{self, ResourceDesc, ResourceType};
+    let desc = d3d12::AllocatorCreateDesc { capture: true, ..d3d12::AllocatorCreateDesc::new(device.version()) };
+    let mut allocator = d3d12::Allocator::new(&desc)?;
+    let request = d3d12::AllocationCreateDesc {
+        name: NAME,
+        location: MemoryLocation::GpuOnly,
+        size: 100,
+        alignment: 4,
+        resource_category: d3d12::ResourceCategory::Buffer,
+    };
+    let (buffer, properties) = (ResourceDesc::buffer(100), d3d12::HeapProperties::default());
+    let own = ResourceType::Committed { heap_properties: &properties, heap_flags: 0 };
+    let made = [(); 4].map(|()| allocator.allocate(&request));
+    let resources =
+        [&ResourceType::Placed, &own, &own].map(|it| allocator.create_resource(&d3d12_resource(&buffer, it)));
+    let mut errors: Vec<_> = made.iter().filter_map(|it| it.as_ref().err().copied()).collect();
+    errors.extend(resources.iter().filter_map(|it| it.as_ref().err().copied()));
+    let mut live: Vec<_> = made.into_iter().flatten().collect();
+    errors.extend(live.iter_mut().filter_map(|it| allocator.rename_allocation(it, OTHER).err()));
+    let moves: Vec<_> = live.iter().map(|it| allocator.propose_move(it, &request)).collect();
+    errors.extend(moves.iter().filter_map(|it| it.as_ref().err().copied()));
+    assert!(errors.iter().all(|error| *error == AllocationError::HostOutOfMemory));
+    let asked = live.len() + resources.iter().flatten().count() + moves.iter().flatten().count();
+    live.into_iter().for_each(|it| allocator.free(it).unwrap());
+    resources.into_iter().flatten().for_each(|it| allocator.free_resource(it).unwrap());
+    let capture = allocator.destroy().expect("its calls are recorded");
+    let asks = |line: &String| ["alloc ", "create ", "move "].iter().any(|word| line.starts_with(word));
+    Ok((errors.len(), capture.end(), capture.lines().filter(asks).count() == asked))
+}
+
+#[cfg(target_arch = "x86_64")]
+#[test]
+fn of_the_d3d12_allocators_captures() {
+    of_captures(|| {
+        let device = fake_d3d12::FakeDevice::new(2, 0);
+        let run = captured_d3d12_run(&device);
+        device.assert_left_empty();
+        run
+    });
 }
 
 #[cfg(target_arch = "x86_64")]

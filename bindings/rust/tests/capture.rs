@@ -2,6 +2,11 @@
 #![allow(missing_docs)]
 
 mod common;
+#[cfg(target_arch = "x86_64")]
+#[path = "capture/d3d12.rs"]
+mod d3d12;
+#[cfg(target_arch = "x86_64")]
+mod fake_d3d12;
 
 use common::script::{reply, Script};
 use common::{FakeDriver, Random, Refusal, MB};

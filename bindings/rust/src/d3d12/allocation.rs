@@ -14,7 +14,7 @@ pub struct Allocation {
     pub(super) piece: HeapsPiece,
     /// The number of its allocator, which no other has, nor had.
     pub(super) owner: u64,
-    /// Its number there, which no other allocation has, nor had.
+    /// Its number there, which no other allocation or committed resource has, nor had.
     pub(super) number: u64,
     pub(super) heap: Interface,
     pub(super) name: String,
@@ -88,6 +88,8 @@ pub(super) enum Memory {
         record: HeapsCommitted,
         /// The number of its allocator.
         owner: u64,
+        /// Its number there, as an allocation's.
+        number: u64,
     },
 }
 

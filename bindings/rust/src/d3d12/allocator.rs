@@ -3,13 +3,14 @@
 use super::abi::{ClearValue, HeapProperties, ResourceDesc};
 use super::allocation::{Allocation, Memory, Resource};
 use super::device::{heap_size, ID3D12DeviceVersion, Place, Wanted};
-use super::machine::{choose_call, heap_of, Machine, Progress};
+use super::machine::{choose_call, heap_of, raw_settings, Machine, Progress};
 use super::Interface;
+use crate::capture::{Answers, Capture};
 use crate::error::{check, copied, out_of_host_memory};
 use crate::log::Log;
 use crate::memory_type::BlockStatistics;
 use crate::pieces::Visited;
-use crate::raw::{HeapsPiece, NOT_LIVE};
+use crate::raw::{HeapsCommitted, HeapsPiece, NOT_LIVE};
 use crate::report::report_of;
 use crate::statistics::TypeStatistics;
 use crate::vulkan::next_owner;
@@ -105,6 +106,8 @@ pub struct ResourceCreateDesc<'a> {
 }
 
 /// What an allocator is made with.
+// `capture` is a field, as in Vulkan's: a literal with gpu-allocator's fields alone lacks `logger` all the same, and has both from
+// `..AllocatorCreateDesc::new(device)`.
 #[derive(Clone, Debug)]
 pub struct AllocatorCreateDesc {
     /// The device that is asked.
@@ -115,16 +118,19 @@ pub struct AllocatorCreateDesc {
     pub allocation_sizes: AllocationSizes,
     /// Where log lines go.
     pub logger: Option<Logger>,
+    /// Whether the calls are recorded: `Allocator::capture`.
+    pub capture: bool,
 }
 
 impl AllocatorCreateDesc {
-    /// A description with the default settings and sizes, and without a logger.
+    /// A description with the default settings and sizes, without a logger and without a capture.
     pub fn new(device: ID3D12DeviceVersion) -> Self {
         AllocatorCreateDesc {
             device,
             debug_settings: AllocatorDebugSettings::default(),
             allocation_sizes: AllocationSizes::default(),
             logger: None,
+            capture: false,
         }
     }
 }
@@ -141,12 +147,13 @@ pub struct CommittedAllocationStatistics {
 /// An allocator of a device's heaps. It may go from thread to thread, and serves one call at a time (`Mutex<Allocator>`). Dropping it releases
 /// its heaps and logs the allocations that are live still: these, and resources, hold their heaps as long as they live.
 pub struct Allocator {
-    machine: Machine,
+    pub(super) machine: Machine,
     device: ID3D12DeviceVersion,
     owner: u64,
-    /// The number of the allocation that was made last.
-    last_number: u64,
+    /// The number of the allocation or committed resource that was made last.
+    pub(super) last_number: u64,
     log: Log,
+    pub(super) capture: Option<Capture>,
 }
 
 impl Allocator {
@@ -154,13 +161,14 @@ impl Allocator {
     ///
     /// The errors: `Internal` where it doesn't tell that, `InvalidAllocatorCreateDesc` where it is 0, `HostOutOfMemory`.
     pub fn new(desc: &AllocatorCreateDesc) -> Result<Self> {
-        let tier = desc.device.heap_tier()?;
+        let settings = raw_settings(desc.device.heap_tier()?, &desc.allocation_sizes);
         Ok(Allocator {
-            machine: Machine::new(tier, &desc.allocation_sizes)?,
+            machine: Machine::new(&settings)?,
             device: desc.device.clone(),
             owner: next_owner(),
             last_number: 0,
             log: Log::new(desc.debug_settings, desc.logger.as_ref()),
+            capture: desc.capture.then(|| Capture::of_heaps(&settings)).transpose()?,
         })
     }
 
@@ -178,14 +186,24 @@ impl Allocator {
         let AllocationCreateDesc { name, size, alignment, .. } = *desc;
         self.log.requested(name, size, alignment);
         let own = copied(name)?;
-        let piece = match self.machine.begin(desc)? {
-            Progress::Piece(piece) => piece,
-            Progress::Question(question) => match self.device.create_heap(&question) {
-                Ok(heap) => self.machine.granted(heap),
-                Err(code) => return Err(self.machine.refused(code)),
-            },
+        let mut answers = Answers::default();
+        let result = self.place(desc, &mut answers);
+        self.record_allocated(desc, &result, &answers);
+        result.map(|piece| self.held(piece, own))
+    }
+
+    /// Begins a request, and asks the driver for the heap that it needs, if it needs one.
+    fn place(&mut self, desc: &AllocationCreateDesc<'_>, answers: &mut Answers) -> Result<HeapsPiece> {
+        let question = match self.machine.begin(desc)? {
+            Progress::Piece(piece) => return Ok(piece),
+            Progress::Question(question) => question,
         };
-        Ok(self.held(piece, own))
+        let made = self.device.create_heap(&question);
+        answers.note_made(&made);
+        match made {
+            Ok(heap) => Ok(self.machine.granted(heap)),
+            Err(code) => Err(self.machine.refused(code)),
+        }
     }
 
     /// What the owner of a new piece holds of it.
@@ -209,7 +227,11 @@ impl Allocator {
 
     fn release(&mut self, allocation: &Allocation) -> Result<()> {
         self.owns(allocation.owner)?;
-        self.machine.free(&allocation.piece)
+        self.machine.free(&allocation.piece)?;
+        if let Some(capture) = &mut self.capture {
+            capture.freed(allocation.number);
+        }
+        Ok(())
     }
 
     /// Looks for a second place for an allocation: the one that this request, which it was made for, would get as a new allocation now, if
@@ -226,7 +248,9 @@ impl Allocator {
     ) -> Result<Option<Allocation>> {
         let own = copied(desc.name)?;
         self.owns(allocation.owner)?;
-        let Some(piece) = self.machine.propose_move(&allocation.piece, desc)? else { return Ok(None) };
+        let piece = self.machine.propose_move(&allocation.piece, desc)?;
+        self.record_moved(allocation.number, desc);
+        let Some(piece) = piece else { return Ok(None) };
         let mut second = self.held(piece, own);
         self.set_user_data(&mut second, allocation.user_data).expect("a new piece is live");
         Ok(Some(second))
@@ -239,6 +263,9 @@ impl Allocator {
         let own = copied(name)?;
         self.owns(allocation.owner)?;
         self.machine.rename(&allocation.piece, name)?;
+        if let Some(capture) = &mut self.capture {
+            capture.renamed(allocation.number, name);
+        }
         allocation.name = own;
         Ok(())
     }
@@ -272,31 +299,37 @@ impl Allocator {
         let call = choose_call(&self.device, in_layout, !desc.castable_formats.is_empty())?;
         let ResourceCreateDesc { resource_desc, castable_formats, clear_value, .. } = *desc;
         let wanted = Wanted { desc: resource_desc, castable_formats, clear_value, begins, call };
+        let needs = self.needs(desc);
         match *desc.resource_type {
-            ResourceType::Placed => self.create_placed(desc, &wanted),
+            ResourceType::Placed => self.create_placed(&needs, &wanted),
             ResourceType::Committed { heap_properties, heap_flags } => {
-                self.create_committed(desc, &wanted, Place::Committed(heap_properties, heap_flags))
+                self.create_committed(&needs, &wanted, Place::Committed(heap_properties, heap_flags))
             }
         }
     }
 
-    fn create_placed(&mut self, desc: &ResourceCreateDesc<'_>, wanted: &Wanted<'_>) -> Result<Resource> {
+    /// What a resource needs, as the device tells it.
+    fn needs<'a>(&self, desc: &ResourceCreateDesc<'a>) -> AllocationCreateDesc<'a> {
         let info = self.device.allocation_info(desc.resource_desc, desc.castable_formats);
-        let allocation = self.allocate(&AllocationCreateDesc {
+        AllocationCreateDesc {
             name: desc.name,
             location: desc.memory_location,
             size: info.size,
             alignment: info.alignment,
             resource_category: desc.resource_category,
-        })?;
+        }
+    }
+
+    fn create_placed(&mut self, needs: &AllocationCreateDesc<'_>, wanted: &Wanted<'_>) -> Result<Resource> {
+        let allocation = self.allocate(needs)?;
         match self.device.create_resource(wanted, Place::In(&allocation.heap, allocation.offset())) {
             Ok(resource) => {
                 let memory = Memory::Placed(allocation);
-                Ok(Resource { resource, memory, memory_location: desc.memory_location, size: info.size })
+                Ok(Resource { resource, memory, memory_location: needs.location, size: needs.size })
             }
             Err(code) => {
                 let error = self.device.resource_refused(true, code);
-                self.machine.free(&allocation.piece)?;
+                self.release(&allocation)?;
                 Err(error)
             }
         }
@@ -304,22 +337,49 @@ impl Allocator {
 
     fn create_committed(
         &mut self,
-        desc: &ResourceCreateDesc<'_>,
+        needs: &AllocationCreateDesc<'_>,
         wanted: &Wanted<'_>,
         place: Place<'_>,
     ) -> Result<Resource> {
-        let info = self.device.allocation_info(desc.resource_desc, desc.castable_formats);
-        self.machine.begin_committed(info.size, desc.memory_location, desc.resource_category)?;
-        match self.device.create_resource(wanted, place) {
+        let mut answers = Answers::default();
+        let result = self.ask_committed(needs, wanted, place, &mut answers);
+        self.record_committed(needs, &result, &answers);
+        let (resource, record) = result?;
+        self.last_number += 1;
+        let memory = Memory::Committed { record, owner: self.owner, number: self.last_number };
+        Ok(Resource { resource, memory, memory_location: needs.location, size: needs.size })
+    }
+
+    /// Begins a committed resource, and asks the driver for it.
+    fn ask_committed(
+        &mut self,
+        needs: &AllocationCreateDesc<'_>,
+        wanted: &Wanted<'_>,
+        place: Place<'_>,
+        answers: &mut Answers,
+    ) -> Result<(Interface, HeapsCommitted)> {
+        self.machine.begin_committed(needs.size, needs.location, needs.resource_category)?;
+        let made = self.device.create_resource(wanted, place);
+        answers.note_made(&made);
+        match made {
             Ok(resource) => {
-                let memory = Memory::Committed { record: self.machine.made(&resource), owner: self.owner };
-                Ok(Resource { resource, memory, memory_location: desc.memory_location, size: info.size })
+                let record = self.machine.made(&resource);
+                Ok((resource, record))
             }
             Err(code) => {
                 self.machine.not_made();
                 Err(self.device.resource_refused(false, code))
             }
         }
+    }
+
+    /// Forgets a committed resource that is released.
+    fn forget(&mut self, record: &HeapsCommitted, number: u64) -> Result<()> {
+        self.machine.forget(record)?;
+        if let Some(capture) = &mut self.capture {
+            capture.released(number);
+        }
+        Ok(())
     }
 
     /// Releases a resource, and then frees its memory. References that were cloned are released before.
@@ -338,7 +398,7 @@ impl Allocator {
         drop(resource); // before its heap may go
         let freed = match &memory {
             Memory::Placed(allocation) => self.release(allocation),
-            Memory::Committed { record, .. } => self.machine.forget(record),
+            Memory::Committed { record, number, .. } => self.forget(record, *number),
         };
         freed.expect("a resource's memory is live");
         Ok(())
@@ -355,6 +415,20 @@ impl Allocator {
     /// The bound of a memory type in bytes; `None` where it has none, or isn't there.
     pub fn budget(&self, memory_type: usize) -> Option<u64> {
         self.machine.budget(memory_type)
+    }
+
+    /// What was asked of the allocator by now, where that is recorded, up to the budgets as they are.
+    pub fn capture(&self) -> Option<&Capture> {
+        self.record_bounds();
+        self.capture.as_ref()
+    }
+
+    /// Drops the allocator, and returns what was asked of it, up to its end, where that is recorded.
+    pub fn destroy(mut self) -> Option<Capture> {
+        self.record_bounds();
+        let mut capture = self.capture.take()?;
+        capture.destroyed();
+        Some(capture)
     }
 
     /// The sum of the sizes of the heaps in bytes.

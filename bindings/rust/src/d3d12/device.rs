@@ -55,7 +55,7 @@ impl ID3D12DeviceVersion {
 }
 
 /// What the driver made, or why not: its code, or none where it gave null.
-type Made = std::result::Result<Interface, Option<i32>>;
+pub(super) type Made = std::result::Result<Interface, Option<i32>>;
 
 /// A resource that is to be made.
 #[derive(Clone, Copy, Debug)]

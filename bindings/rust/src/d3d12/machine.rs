@@ -31,12 +31,25 @@ fn category_number(category: ResourceCategory) -> u32 {
     }
 }
 
-fn raw_request(desc: &AllocationCreateDesc<'_>) -> raw::HeapsRequest {
+/// A request for the library.
+pub(super) fn raw_request(desc: &AllocationCreateDesc<'_>) -> raw::HeapsRequest {
     raw::HeapsRequest {
         size: desc.size,
         alignment: desc.alignment,
         location: location_number(desc.location),
         category: category_number(desc.resource_category),
+    }
+}
+
+/// What an allocator without blocks of a device of that resource heap tier is made with, for the library.
+pub(super) fn raw_settings(heap_tier: u32, sizes: &AllocationSizes) -> raw::HeapsSettings {
+    let sizes = sizes.parts();
+    raw::HeapsSettings {
+        heap_tier,
+        device_block_size: sizes.device,
+        largest_device_block_size: sizes.largest_device,
+        host_block_size: sizes.host,
+        largest_host_block_size: sizes.largest_host,
     }
 }
 
@@ -70,27 +83,21 @@ fn heap_back(heap: u64) -> Option<Interface> {
 #[derive(Debug)]
 pub(super) struct Machine {
     handle: Handle,
+    /// How often a budget was set, by which bounds of memory types may be others.
+    pub(super) changes: u64,
 }
 
 impl Machine {
-    /// An allocator without blocks of a device of that resource heap tier.
-    pub(super) fn new(heap_tier: u32, sizes: &AllocationSizes) -> Result<Self> {
-        let sizes = sizes.parts();
-        let settings = raw::HeapsSettings {
-            heap_tier,
-            device_block_size: sizes.device,
-            largest_device_block_size: sizes.largest_device,
-            host_block_size: sizes.host,
-            largest_host_block_size: sizes.largest_host,
-        };
+    /// An allocator without blocks.
+    pub(super) fn new(settings: &raw::HeapsSettings) -> Result<Self> {
         let handle = Handle::empty();
         // SAFETY: the handle is empty and this call's alone, and the settings outlive the call.
-        match unsafe { raw::pilhangko_raw_heaps_create(handle.as_ptr(), &settings) } {
+        match unsafe { raw::pilhangko_raw_heaps_create(handle.as_ptr(), settings) } {
             raw::INVALID_DEVICE => {
                 let text = "the resource heap tier is 0.";
                 Err(AllocationError::InvalidAllocatorCreateDesc(Fault { text, code: None }))
             }
-            status => check(status).map(|()| Machine { handle }),
+            status => check(status).map(|()| Machine { handle, changes: 0 }),
         }
     }
 
@@ -222,6 +229,7 @@ impl Machine {
     /// Bounds the sum of the sizes of a memory type's heaps in bytes, or takes the bound away.
     pub(super) fn set_budget(&mut self, memory_type: usize, budget: Option<u64>) -> Result<()> {
         let bytes = budget.unwrap_or(0);
+        self.changes += 1;
         // SAFETY: the handle is this machine's alone.
         check(unsafe {
             raw::pilhangko_raw_heaps_set_budget(self.handle.as_ptr(), memory_type, budget.is_some(), bytes)

@@ -34,11 +34,13 @@
 mod abi;
 mod allocation;
 mod allocator;
+mod capture;
 mod defragmentation;
 mod device;
 mod interface;
 mod machine;
 
+pub use crate::capture::{Capture, CaptureEnd};
 pub use crate::defragmentation::{DefragmentationStatistics, MoveKey};
 pub use crate::statistics::TypeStatistics;
 pub use abi::{ClearValue, HeapProperties, ResourceDesc};

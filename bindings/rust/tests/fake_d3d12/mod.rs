@@ -46,6 +46,7 @@ pub struct Heap {
     functions: *const Functions,
     references: Cell<u32>,
     device: *const Device,
+    pub number: u64,
     pub desc: HeapDesc,
 }
 
@@ -54,6 +55,7 @@ pub struct Resource {
     functions: *const Functions,
     references: Cell<u32>,
     device: *const Device,
+    pub number: u64,       // 0 of a placed one
     pub heap: *const Heap, // null of a committed one
     pub offset: u64,
     pub size: u64,
@@ -76,6 +78,8 @@ pub struct State {
     pub refused: Option<(u64, Option<i32>)>,
     pub heaps: u32,
     pub last_heap: HeapDesc,
+    /// How many heaps and committed resources it made: they are numbered in one row.
+    numbered: u64,
     resources: Vec<*const Resource>,
 }
 
@@ -280,6 +284,12 @@ fn asked(device: &Device) -> Result<(), i32> {
     }
 }
 
+fn next_number(device: &Device) -> u64 {
+    let mut state = device.state.borrow_mut();
+    state.numbered += 1;
+    state.numbered
+}
+
 unsafe extern "win64" fn create_heap(
     this: *const Device,
     desc: *const HeapDesc,
@@ -297,7 +307,7 @@ unsafe extern "win64" fn create_heap(
         return code;
     }
     device.state.borrow_mut().heaps += 1;
-    let heap = Heap { functions: &HEAP.0, references: Cell::new(1), device: this, desc };
+    let heap = Heap { functions: &HEAP.0, references: Cell::new(1), device: this, number: next_number(device), desc };
     unsafe { *out = Box::into_raw(Box::new(heap)).cast() };
     0
 }
@@ -349,6 +359,9 @@ fn make(device: &Device, desc: &ResourceDesc, id: *const [u8; 16], out: *mut *co
     if let Err(code) = asked(device) {
         return code;
     }
+    if it.heap.is_null() {
+        it.number = next_number(device);
+    }
     let resource = Box::into_raw(Box::new(it)).cast_const();
     device.state.borrow_mut().resources.push(resource);
     unsafe { *out = resource.cast() };
@@ -360,6 +373,7 @@ fn blank(device: *const Device, begins: u32, clear_value: *const ClearValue) -> 
         functions: &RESOURCE.0,
         references: Cell::new(1),
         device,
+        number: 0,
         heap: ptr::null(),
         offset: 0,
         size: 0,
