@@ -2234,8 +2234,8 @@ PILHANGKO_NODISCARD static inline pilhangko_status pilhangko_capture_metal_heaps
         capture, number, request, pilhangko_name_bytes(name), pilhangko_name_length(name), answers ? answers : &none, answer_count);
 }
 
-/* A committed resource was asked for, as pilhangko_capture_heaps_allocated. The trace makes it as a buffer of whole units of 65,536 bytes. Its
- * alignment and its name may be any, since no allocator is told them.
+/* A committed resource was asked for, as pilhangko_capture_heaps_allocated. The trace makes it as a buffer of whole units of 65,536 bytes, where 64
+ * bits hold them. Its alignment and its name may be any, since no allocator is told them.
  * NO_HANDLE. INVALID: location or category. */
 PILHANGKO_NODISCARD static inline pilhangko_status pilhangko_capture_heaps_committed(pilhangko_capture *capture,
     uint64_t number, const pilhangko_heaps_request *request, const char *name, const pilhangko_capture_answer *answers,
@@ -2284,7 +2284,7 @@ PILHANGKO_NODISCARD static inline pilhangko_status pilhangko_capture_released(pi
     return pilhangko_raw_capture_released(capture, number);
 }
 
-/* An allocation has a new name.
+/* An allocation has a new name; a Metal trace has no such line, and can't be read with it.
  * NO_HANDLE. */
 PILHANGKO_NODISCARD static inline pilhangko_status pilhangko_capture_renamed(
     pilhangko_capture *capture, uint64_t number, const char *name) {

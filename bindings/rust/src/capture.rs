@@ -28,13 +28,13 @@ pub enum CaptureEnd {
 /// allocators, invalid requests and those that the host had no memory for are left out: they change nothing. A name is brought into a trace's
 /// alphabet: `_` stands for each other byte and for an empty name, and it is cut at 64 bytes.
 ///
-/// Of DirectX 12's resources a committed one is recorded, with its release, as a buffer of whole units of 65,536 bytes, and of a placed one its
-/// allocation: where the device refuses to place it, that is freed.
+/// Of DirectX 12's resources a committed one is recorded, with its release, as a buffer of whole units of 65,536 bytes, where 64 bits hold
+/// them, and of a placed one its allocation: where the device refuses to place it, that is freed.
 #[derive(Debug)]
 pub struct Capture {
     handle: Handle,
     is_destroyed: bool,
-    /// Behind how many changes of what they follow from it has the bounds of memory types.
+    /// How many changes there were, of what bounds follow from, when it was handed bounds last.
     changes: Cell<u64>,
 }
 

@@ -1,8 +1,8 @@
 //! Pilhangko: GPU memory allocators whose code is proved, from Rust.
 //!
 //! [`vulkan`] has the allocator under the names of the crate gpu-allocator: it asks the driver for large blocks, cuts them up by best fit,
-//! and gives them back; [`d3d12`] has the one of DirectX 12. [`virtual_block`] and [`memory_type`] are what it stands on, for any graphics API: one block of numbers, and the
-//! blocks of one memory type. [`ring`] is a block of numbers for uploads, freed a frame at a time; [`vulkan::UploadRing`] has memory behind it.
+//! and gives them back; [`d3d12`] has the one of DirectX 12. [`virtual_block`] and [`memory_type`] are what it stands on, for any graphics API:
+//! one block of numbers, and the blocks of one memory type. [`ring`] is a block of numbers for uploads, freed a frame at a time; [`vulkan::UploadRing`] has memory behind it.
 //! [`plan()`] lets transient resources of a frame share memory.
 //!
 //! What decides where a piece lies, which block is asked for and which goes back is the library `libgpu_c.a`, proved and built from

@@ -177,8 +177,8 @@ fn captured_run(device: Device, of_a_pool: bool) -> Result<Captured> {
     Ok((errors.len(), capture.end(), has_all))
 }
 
-/// Each request for host memory of a run is refused in turn. Where it is the capture's, the capture ends and no call fails; else one call fails, and
-/// the capture hasn't it.
+/// Each request for host memory of a run is refused in turn. Where it is the capture's, the capture ends and no call fails; else one call fails,
+/// and the capture hasn't it.
 fn of_captures(run: impl Fn() -> Result<Captured>) {
     let (mut not_made, mut failed, mut ended) = (0, 0, 0);
     for nth in 1.. {

@@ -68,7 +68,7 @@ pub extern "C" fn pilhangko_raw_capture_released(
     }
 }
 
-/// An allocation has a new name, bytes of any kind.
+/// An allocation has a new name, bytes of any kind. A Metal trace has no such line, and can't be read with it.
 #[unsafe(no_mangle)]
 pub extern "C" fn pilhangko_raw_capture_renamed(
     capture: &mut CaptureHandle,

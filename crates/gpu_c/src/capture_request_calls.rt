@@ -118,8 +118,8 @@ pub extern "C" fn pilhangko_raw_capture_metal_heaps_allocated(
 }
 
 /// A committed resource was asked for, which is called by this number, and the device answered its question so. A trace makes it as a buffer of
-/// whole units of 65,536 bytes. Its alignment and its name may be any, since no allocator is told them. `INVALID` where location or category
-/// isn't one.
+/// whole units of 65,536 bytes, where 64 bits hold them. Its alignment and its name may be any, since no allocator is told them. `INVALID` where
+/// location or category isn't one.
 #[unsafe(no_mangle)]
 pub extern "C" fn pilhangko_raw_capture_heaps_committed(
     capture: &mut CaptureHandle,

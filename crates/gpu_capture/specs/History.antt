@@ -25,7 +25,7 @@ pub data Call : Type 0 where
   Bounded : (memory_type : ℕ) → Option ℕ → Call
   SetCommitted : Call
 
--- its line
+-- a call's line
 abbrev pub call_line : Call → List ℕ
 call_line (Allocated number r answers) = alloc_line number r
 call_line (Moved from to r) = move_line from to r
@@ -42,12 +42,12 @@ answers_of (Allocated number r answers) = answers
 answers_of (Committed number r answers) = answers
 answers_of c = []
 
--- a capture with its lines
+-- a capture with the lines of a call: those of what was refused to it, and its own
 abbrev pub with_kept : CaptureState → Call → CaptureState
 with_kept s (Bounded memory_type budget) = with_budget s memory_type budget
 with_kept s c = with_lines s (answer_lines s.questions (answers_of c)) (call_line c) (length (answers_of c))
 
--- these calls were kept, or those before the capture ended
+-- these calls were kept, or those before the capture ended; a budget that the lines have is none of them
 abbrev pub Kept : List Call → (old new : CaptureState) → Type 0
 Kept [] old new = new ≡ old
 Kept (c ∷ cs) old new = (next : CaptureState) × Keeps old (with_kept old c) next × Kept cs next new
@@ -57,7 +57,7 @@ pub record RefusedQuestion : Type 0 where
   pub question : ℕ
   pub refusal : Refusal
 
--- the refused ones behind so many questions
+-- of the questions behind so many others those that were refused
 abbrev pub refused_in : (before : ℕ) → List Answer → List RefusedQuestion
 refused_in before [] = []
 refused_in before (Granted ∷ rest) = refused_in (before + 1) rest

@@ -81,7 +81,8 @@ impl Capture {
         }
     }
 
-    /// A committed resource was asked for, and the driver answered its question so: as a buffer of whole units of 65,536 bytes.
+    /// A committed resource was asked for under this number, and the driver answered its question so. Its line makes a buffer of whole units of
+    /// 65,536 bytes, where 64 bits hold them.
     pub fn committed(
         &mut self,
         alloc: Global,
@@ -109,7 +110,7 @@ impl Capture {
         }
     }
 
-    /// A committed resource is released.
+    /// A committed resource is released; in DirectX 12 alone.
     pub fn released(&mut self, alloc: Global, number: u64)
         ensures { Keeps self.old (with_call self.old (line_of (release_words number))) self.new }
     {
@@ -119,7 +120,7 @@ impl Capture {
         }
     }
 
-    /// An allocation is renamed.
+    /// An allocation is renamed; not in Metal, whose traces have no such line.
     pub fn renamed(&mut self, alloc: Global, number: u64, name: &[u8])
         ensures { Keeps self.old (with_call self.old
             (line_of (rename_words number (name_word name.now)))) self.new }
@@ -130,7 +131,7 @@ impl Capture {
         }
     }
 
-    /// The residency set is committed.
+    /// The residency set is committed; in Metal alone.
     pub fn set_committed(&mut self)
         ensures { Keeps self.old (with_call self.old (line_of (codes "commit" ∷ []))) self.new }
     {

@@ -1,5 +1,5 @@
 -- A whole trace that a capture of Vulkan wrote reads back.
-use Rattle.std.proofs.Common.{◌≡◌, refl, sym, ap, ◌∙◌, subst, ℕ, List, [], ◌∷◌, ◌++◌, length, true, map, ◌<◌, append-nil, length-append, arith}
+use Rattle.std.proofs.Common.{◌≡◌, refl, sym, ap, ◌∙◌, subst, ℕ, List, [], ◌∷◌, ◌++◌, length, Bool, map, ◌<◌, append-nil, length-append, arith}
 use Rattle.std.specs.List.{All, flat_map}
 use Rattle.std.specs.declared.alloc.Global.{Global}
 use Rattle.std.proofs.lemmas.List.Concat.{flat_map-append}
@@ -93,13 +93,13 @@ some_lines d sizes =
       long_word (granularity_words d.granularity),
     )
 
-pub trace_reads : Global → (device : VulkanDevice) (sizes : BlockSizes) (questions : ℕ) (cs : List Call) (begun done : CaptureState)
+pub trace_reads : Global → (device : VulkanDevice) (sizes : BlockSizes) (questions : ℕ) (cs : List Call) (is_destroyed : Bool) (begun done : CaptureState)
     → Keeps blank (with_lines blank (vulkan_lines device sizes) [] questions) begun → Kept cs begun done → done.end ≡ Whole
     → All setting.Fits (device_settings device sizes) → All FitsCall cs
-    → ReadsAs Means IsCall (parts_of refuse_setting (device_settings device sizes) questions cs) (text done true)
-trace_reads g device sizes questions cs begun done begins kept whole fit calls_fit =
+    → ReadsAs Means IsCall (parts_of refuse_setting (device_settings device sizes) questions cs is_destroyed) (text done is_destroyed)
+trace_reads g device sizes questions cs is_destroyed begun done begins kept whole fit calls_fit =
     let settings = device_settings device sizes in
     let w =
-    whole_trace Means IsCall (reader g) [] settings questions cs begun done (subst (λ (ls : List ℕ). Keeps blank (with_lines blank ls [] questions) begun) (lines_are g device sizes) begins) kept whole
+    whole_trace Means IsCall (reader g) [] settings questions cs is_destroyed begun done (subst (λ (ls : List ℕ). Keeps blank (with_lines blank ls [] questions) begun) (lines_are g device sizes) begins) kept whole
     (subst (λ (ls : List ℕ). 0 < length ls) (lines_are g device sizes) (some_lines device sizes)) fit calls_fit in
-    subst (ReadsAs Means IsCall (parts_of refuse_setting settings questions cs)) (sym w.1) w.2
+    subst (ReadsAs Means IsCall (parts_of refuse_setting settings questions cs is_destroyed)) (sym w.1) w.2

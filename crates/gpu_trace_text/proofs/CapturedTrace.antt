@@ -1,5 +1,5 @@
 -- A whole trace that a capture wrote reads back, in each sort of traces.
-use Rattle.std.proofs.Common.{◌≡◌, refl, sym, ap, ◌∙◌, subst, ℕ, ◌+◌, ◌<◌, ◌^◌, List, [], ◌∷◌, ◌++◌, length, map, map-append, append_assoc, append-nil, length-append, true, arith}
+use Rattle.std.proofs.Common.{◌≡◌, refl, sym, ap, ◌∙◌, subst, ℕ, ◌+◌, ◌<◌, ◌^◌, List, [], ◌∷◌, ◌++◌, length, map, map-append, append_assoc, append-nil, length-append, Bool, true, false, arith}
 use Rattle.std.specs.List.{flat_map, All}
 use Rattle.std.proofs.lemmas.List.Concat.{flat_map-append}
 use Rattle.std.proofs.lemmas.List.Elements.{All-nil, All-cons, All-head, All-tail, All-append}
@@ -15,7 +15,7 @@ use Rattle.gpu_capture.specs.Line.{line_of}
 use Rattle.gpu_capture.specs.Words.{refuse_words}
 use Rattle.gpu_capture.proofs.Histories.{history, kept_whole}
 use Rattle.gpu_trace_text.specs.Captured.{BeginsWith}
-use Rattle.gpu_trace_text.specs.CapturedTrace.{Part, Sets, Makes, Calls, Ends, parts_of, FitsAnswer, IsPart, ReadsAs}
+use Rattle.gpu_trace_text.specs.CapturedTrace.{Part, Sets, Makes, Calls, Ends, last_part, parts_of, FitsAnswer, IsPart, ReadsAs}
 use Rattle.gpu_trace_text.specs.Dialect.{new_words, destroy_words}
 use Rattle.gpu_trace_text.specs.Setting.{FitsRefusal}
 use Rattle.gpu_trace_text.specs.declared.dialect.Line.{Line}
@@ -46,14 +46,19 @@ module _ {S C O : Type 0} (Means : List ℕ → Line S C O → Type 0) (IsCall :
 
   -- ---- line after line
 
-  calls_read : (cs : List Call) → All r.FitsCall cs → ReadsAs Means IsCall (map Calls cs ++ Ends ∷ []) (flat_map call_line cs ++ line_of destroy_words)
-  calls_read [] f = ([], subst (λ (t : List ℕ). BeginsWith Means (IsPart Means IsCall Ends) t []) (append-nil (line_of destroy_words)) (r.destroy_reads []), refl)
-  calls_read (c ∷ cs) f =
-      let rest = flat_map call_line cs ++ line_of destroy_words in (
+  end_reads : (is_destroyed : Bool) → ReadsAs Means IsCall (last_part is_destroyed) (last_line Whole is_destroyed)
+  end_reads false = refl
+  end_reads true = ([], subst (λ (t : List ℕ). BeginsWith Means (IsPart Means IsCall Ends) t []) (append-nil (line_of destroy_words)) (r.destroy_reads []), refl)
+
+  calls_read : (cs : List Call) (is_destroyed : Bool) → All r.FitsCall cs
+      → ReadsAs Means IsCall (map Calls cs ++ last_part is_destroyed) (flat_map call_line cs ++ last_line Whole is_destroyed)
+  calls_read [] is_destroyed f = end_reads is_destroyed
+  calls_read (c ∷ cs) is_destroyed f =
+      let rest = flat_map call_line cs ++ last_line Whole is_destroyed in (
         rest,
-        subst (λ (t : List ℕ). BeginsWith Means (IsPart Means IsCall (Calls c)) t rest) (sym (append_assoc (call_line c) (flat_map call_line cs) (line_of destroy_words)))
+        subst (λ (t : List ℕ). BeginsWith Means (IsPart Means IsCall (Calls c)) t rest) (sym (append_assoc (call_line c) (flat_map call_line cs) (last_line Whole is_destroyed)))
             (r.call_reads c rest (All-head r.FitsCall c cs f)),
-        calls_read cs (All-tail r.FitsCall c cs f),
+        calls_read cs is_destroyed (All-tail r.FitsCall c cs f),
       )
 
   settings_read : (ss : List S) (ps : List (Part S)) (rest : List ℕ) → All r.FitsSetting ss → ReadsAs Means IsCall ps rest
@@ -95,11 +100,11 @@ module _ {S C O : Type 0} (Means : List ℕ → Line S C O → Type 0) (IsCall :
   -- ---- the whole
 
   -- what a capture wrote behind the first lines of its device is read as its settings and its calls
-  pub whole_trace : (first : List ℕ) (settings : List S) (questions : ℕ) (cs : List Call) (begun done : CaptureState)
+  pub whole_trace : (first : List ℕ) (settings : List S) (questions : ℕ) (cs : List Call) (is_destroyed : Bool) (begun done : CaptureState)
       → Keeps blank (with_lines blank (first ++ flat_map setting_line settings) [] questions) begun → Kept cs begun done → done.end ≡ Whole
       → 0 < length (first ++ flat_map setting_line settings) → All r.FitsSetting settings → All r.FitsCall cs
-      → (rest : List ℕ) × (text done true ≡ first ++ rest) × ReadsAs Means IsCall (parts_of r.refuse settings questions cs) rest
-  whole_trace first settings questions cs begun done begins kept whole some fit calls_fit =
+      → (rest : List ℕ) × (text done is_destroyed ≡ first ++ rest) × ReadsAs Means IsCall (parts_of r.refuse settings questions cs is_destroyed) rest
+  whole_trace first settings questions cs is_destroyed begun done begins kept whole some fit calls_fit =
       let told = history cs begun done kept whole in
       let start = kept_whole blank (with_lines blank (first ++ flat_map setting_line settings) [] questions) begun begins told.was in
       let answers = flat_map answers_of cs in
@@ -127,14 +132,15 @@ module _ {S C O : Type 0} (Means : List ℕ → Line S C O → Type 0) (IsCall :
         ap length (flat_map-append setting_line settings refused),
         length-append (flat_map setting_line settings) (flat_map setting_line refused),
       ) in
-      let last = flat_map call_line cs ++ line_of destroy_words in
+      let end = last_line Whole is_destroyed in
+      let last = flat_map call_line cs ++ end in
       let rest = flat_map setting_line all ++ (line_of new_words ++ last) in (
         rest,
-        ap (λ (e : CaptureEnd). done.device ++ (new_line done.device ++ (done.calls ++ last_line e true))) whole
-            ∙ ap (λ (n : List ℕ). done.device ++ (n ++ (done.calls ++ line_of destroy_words))) (new_behind done.device long)
-            ∙ ap (λ (d : List ℕ). done.device ++ (line_of new_words ++ (d ++ line_of destroy_words))) calls
+        ap (λ (e : CaptureEnd). done.device ++ (new_line done.device ++ (done.calls ++ last_line e is_destroyed))) whole
+            ∙ ap (λ (n : List ℕ). done.device ++ (n ++ (done.calls ++ end))) (new_behind done.device long)
+            ∙ ap (λ (d : List ℕ). done.device ++ (line_of new_words ++ (d ++ end))) calls
             ∙ ap (λ (d : List ℕ). d ++ (line_of new_words ++ last)) device
             ∙ append_assoc first (flat_map setting_line all) (line_of new_words ++ last),
-        settings_read all (Makes ∷ (map Calls cs ++ Ends ∷ [])) (line_of new_words ++ last) (All-append r.FitsSetting settings refused fit refused_fit)
-            (last, r.new_reads last, calls_read cs calls_fit),
+        settings_read all (Makes ∷ (map Calls cs ++ last_part is_destroyed)) (line_of new_words ++ last) (All-append r.FitsSetting settings refused fit refused_fit)
+            (last, r.new_reads last, calls_read cs is_destroyed calls_fit),
       )

@@ -1,5 +1,5 @@
 -- A whole trace that a capture of DirectX 12 wrote reads back.
-use Rattle.std.proofs.Common.{◌≡◌, refl, sym, ap, ◌∙◌, subst, ℕ, List, [], ◌∷◌, ◌++◌, length, true, append-nil, length-append, arith}
+use Rattle.std.proofs.Common.{◌≡◌, refl, sym, ap, ◌∙◌, subst, ℕ, List, [], ◌∷◌, ◌++◌, length, Bool, append-nil, length-append, arith}
 use Rattle.std.specs.Prelude.{codes}
 use Rattle.std.specs.List.{All, flat_map}
 use Rattle.std.specs.declared.alloc.Global.{Global}
@@ -68,15 +68,15 @@ reader g = record {
 lines_are : (g : Global) (tier : ResourceHeapTier) (sizes : BlockSizes) → d3d12_lines tier sizes ≡ line_of (codes "d3d12" ∷ []) ++ flat_map (setting_line Means IsCall (reader g)) (device_settings tier sizes)
 lines_are g tier sizes = ap (λ (t : List ℕ). line_of (codes "d3d12" ∷ []) ++ (line_of (tier_words tier) ++ t)) (sym (append-nil (sizes_line sizes)))
 
-pub trace_reads : Global → (tier : ResourceHeapTier) (sizes : BlockSizes) (questions : ℕ) (cs : List Call) (begun done : CaptureState)
+pub trace_reads : Global → (tier : ResourceHeapTier) (sizes : BlockSizes) (questions : ℕ) (cs : List Call) (is_destroyed : Bool) (begun done : CaptureState)
     → Keeps blank (with_lines blank (d3d12_lines tier sizes) [] questions) begun → Kept cs begun done → done.end ≡ Whole
     → All setting.Fits (device_settings tier sizes) → All FitsCall cs
-    → IsOfSort Means IsCall d3d12_line (parts_of refuse_setting (device_settings tier sizes) questions cs) (text done true)
-trace_reads g tier sizes questions cs begun done begins kept whole fit calls_fit =
+    → IsOfSort Means IsCall d3d12_line (parts_of refuse_setting (device_settings tier sizes) questions cs is_destroyed) (text done is_destroyed)
+trace_reads g tier sizes questions cs is_destroyed begun done begins kept whole fit calls_fit =
     let settings = device_settings tier sizes in
     let first = line_of (codes "d3d12" ∷ []) in
     let w =
-    whole_trace Means IsCall (reader g) first settings questions cs begun done (subst (λ (ls : List ℕ). Keeps blank (with_lines blank ls [] questions) begun) (lines_are g tier sizes) begins) kept whole
+    whole_trace Means IsCall (reader g) first settings questions cs is_destroyed begun done (subst (λ (ls : List ℕ). Keeps blank (with_lines blank ls [] questions) begun) (lines_are g tier sizes) begins) kept whole
     (omega (arith, length-append first (flat_map (setting_line Means IsCall (reader g)) settings))) fit calls_fit in record {
       rest = w.0;
       split = ap lines_of w.1 ∙ lines-first (codes "d3d12" ∷ []) w.0 (clean_text (codes "d3d12") refl, tt);

@@ -34,7 +34,7 @@ use Rattle.gpu_block_session.proofs.Canonical.{differ}
 use Rattle.gpu_block_session.specs.Words.{IsName}
 use Rattle.gpu_trace_text.specs.Captured.{BeginsWith}
 use Rattle.gpu_trace_text.specs.D3D12Calls.{IsCommitted, IsCreate}
-use Rattle.gpu_trace_text.specs.D3D12Captured.{FitsCaptured, category_of}
+use Rattle.gpu_trace_text.specs.D3D12Captured.{category_of}
 use Rattle.gpu_trace_text.specs.D3D12Command as command
 use Rattle.gpu_trace_text.specs.D3D12Line.{Means}
 use Rattle.gpu_trace_text.specs.D3D12Numbers.{IsSeparator, AreNumbers, numbers_word}
@@ -109,10 +109,10 @@ wanted_of g r = record {
   memory = Own (heap_properties r.location) (record { 0 = 0 });
 }
 
-wanted_fits : (g : Global) (r : D3D12Request) → FitsCaptured r → FitsWanted (wanted_of g r)
+wanted_fits : (g : Global) (r : D3D12Request) → r.size < 2 ^ 64 → FitsWanted (wanted_of g r)
 wanted_fits g r f = record {
   memory_fits = (refl, refl);
-  desc_fits = record { width_fits = units_fit r.size f.size_fits; height_fits = omega arith; depth_fits = omega arith; flags_fit = omega arith; plain = refl };
+  desc_fits = record { width_fits = units_fit r.size f; height_fits = omega arith; depth_fits = omega arith; flags_fit = omega arith; plain = refl };
   initial_fits = omega arith;
   formats_fit = record { few = omega arith; fit = All-nil (λ x. x.0 < 2 ^ 32) };
   clear_fits = tt;
@@ -125,7 +125,7 @@ create_words number r = committed_words number r.location (captured.category_wor
 spelled : (g : Global) (number : ℕ) (r : D3D12Request) → create_words number r ≡ command.words (asked.Create number (wanted_of g r))
 spelled g number r = rw (category-same r.category, one_digit, no_digit, (text_of g r.name.now).1) refl
 
-same_resource : (number : ℕ) (r : D3D12Request) (w : WantedResource) → FitsCaptured r → FitsWanted w → create_words number r ≡ codes "create" ∷ decimal number ∷ wanted_words w → IsCommitted r w
+same_resource : (number : ℕ) (r : D3D12Request) (w : WantedResource) → r.size < 2 ^ 64 → FitsWanted w → create_words number r ≡ codes "create" ∷ decimal number ∷ wanted_words w → IsCommitted r w
 same_resource number r w f h e =
     let place : codes "committed" ≡ place_word w.memory = cc in
     let location : location_word r.location ≡ location_word w.location = cc in
@@ -141,7 +141,7 @@ same_resource number r w f h e =
     let d = h.desc_fits in
     let place_is : w.location ≡ r.location = location-one r.location w.location location in
     let dimension_is : w.desc.dimension ≡ dimensions.Buffer = dimension-one w.desc.dimension dimension in
-    let width_is : w.desc.width ≡ whole_units r.size = decimal_injective w.desc.width (whole_units r.size) d.width_fits (units_fit r.size f.size_fits) (sym width) in
+    let width_is : w.desc.width ≡ whole_units r.size = decimal_injective w.desc.width (whole_units r.size) d.width_fits (units_fit r.size f) (sym width) in
     let height_is : w.desc.height ≡ 1 = decimal_injective w.desc.height 1 (omega (arith, d.height_fits)) (omega arith) (sym height ∙ sym one_digit) in
     let depth_is : w.desc.depth_or_array_size ≡ 1 = decimal_injective w.desc.depth_or_array_size 1 (omega (arith, d.depth_fits)) (omega arith) (sym depth ∙ sym one_digit) in
     let flags_are : w.desc.flags ≡ 0 = decimal_injective w.desc.flags 0 (omega (arith, d.flags_fit)) (omega arith) (sym flags ∙ sym no_digit) in record {
@@ -160,7 +160,7 @@ same_resource number r w f h e =
       name = cc;
     }
 
-create_one : (n : ℕ) (r : D3D12Request) → n < 2 ^ 64 → FitsCaptured r → (d : Command) → Spells command.words command.Fits (create_words n r) d → IsCreate n r (lines.Asks d)
+create_one : (n : ℕ) (r : D3D12Request) → n < 2 ^ 64 → r.size < 2 ^ 64 → (d : Command) → Spells command.words command.Fits (create_words n r) d → IsCreate n r (lines.Asks d)
 create_one n r small f (asked.Create key w) s =
     let i = s.is in
     let k : decimal key ≡ decimal n = cc in
@@ -168,7 +168,7 @@ create_one n r small f (asked.Create key w) s =
     (same, same_resource n r w f s.fits.1 (i ∙ ap (λ (m : ℕ). codes "create" ∷ decimal m ∷ wanted_words w) same))
 create_one n r small f d s = absurd (other s.is refl)
 
-pub create_reads : Global → (n : ℕ) (r : D3D12Request) (rest : List ℕ) → n < 2 ^ 64 → FitsCaptured r → BeginsWith Means (IsCreate n r) (committed_line n r ++ rest) rest
+pub create_reads : Global → (n : ℕ) (r : D3D12Request) (rest : List ℕ) → n < 2 ^ 64 → r.size < 2 ^ 64 → BeginsWith Means (IsCreate n r) (committed_line n r ++ rest) rest
 create_reads g n r rest small f =
     asks_line said (IsCreate n r) (asked.Create n (wanted_of g r)) (codes "create")
     (decimal n ∷ codes "committed" ∷ location_word r.location ∷ captured.category_word r.category ∷ codes "buffer" ∷ decimal (whole_units r.size)
@@ -185,7 +185,7 @@ create_reads g n r rest small f =
               (
                 clean_text (codes "buffer") refl,
                 (
-                  clean_decimal (whole_units r.size) (units_fit r.size f.size_fits),
+                  clean_decimal (whole_units r.size) (units_fit r.size f),
                   (
                     clean_text (codes "1") refl,
                     (

@@ -1,5 +1,5 @@
 -- A whole trace that a capture of Metal wrote reads back.
-use Rattle.std.proofs.Common.{◌≡◌, refl, sym, ap, ◌∙◌, subst, ℕ, List, [], ◌∷◌, ◌++◌, length, true, Bool, append-nil, length-append, arith}
+use Rattle.std.proofs.Common.{◌≡◌, refl, sym, ap, ◌∙◌, subst, ℕ, List, [], ◌∷◌, ◌++◌, length, Bool, append-nil, length-append, arith}
 use Rattle.std.specs.Prelude.{codes}
 use Rattle.std.specs.List.{All, flat_map}
 use Rattle.std.specs.declared.alloc.Global.{Global}
@@ -66,15 +66,15 @@ reader g = record {
 lines_are : (g : Global) (has_set : Bool) (sizes : BlockSizes) → metal_lines has_set sizes ≡ line_of (codes "metal" ∷ []) ++ flat_map (setting_line Means IsCall (reader g)) (device_settings has_set sizes)
 lines_are g has_set sizes = ap (λ (t : List ℕ). line_of (codes "metal" ∷ []) ++ (line_of (residency_words has_set) ++ t)) (sym (append-nil (sizes_line sizes)))
 
-pub trace_reads : Global → (has_set : Bool) (sizes : BlockSizes) (questions : ℕ) (cs : List Call) (begun done : CaptureState)
+pub trace_reads : Global → (has_set : Bool) (sizes : BlockSizes) (questions : ℕ) (cs : List Call) (is_destroyed : Bool) (begun done : CaptureState)
     → Keeps blank (with_lines blank (metal_lines has_set sizes) [] questions) begun → Kept cs begun done → done.end ≡ Whole
     → All setting.Fits (device_settings has_set sizes) → All FitsCall cs
-    → IsOfSort Means IsCall metal_line (parts_of refuse_setting (device_settings has_set sizes) questions cs) (text done true)
-trace_reads g has_set sizes questions cs begun done begins kept whole fit calls_fit =
+    → IsOfSort Means IsCall metal_line (parts_of refuse_setting (device_settings has_set sizes) questions cs is_destroyed) (text done is_destroyed)
+trace_reads g has_set sizes questions cs is_destroyed begun done begins kept whole fit calls_fit =
     let settings = device_settings has_set sizes in
     let first = line_of (codes "metal" ∷ []) in
     let w =
-    whole_trace Means IsCall (reader g) first settings questions cs begun done (subst (λ (ls : List ℕ). Keeps blank (with_lines blank ls [] questions) begun) (lines_are g has_set sizes) begins) kept whole
+    whole_trace Means IsCall (reader g) first settings questions cs is_destroyed begun done (subst (λ (ls : List ℕ). Keeps blank (with_lines blank ls [] questions) begun) (lines_are g has_set sizes) begins) kept whole
     (omega (arith, length-append first (flat_map (setting_line Means IsCall (reader g)) settings))) fit calls_fit in record {
       rest = w.0;
       split = ap lines_of w.1 ∙ lines-first (codes "metal" ∷ []) w.0 (clean_text (codes "metal") refl, tt);

@@ -37,6 +37,7 @@ IsCall c l = ⊥
 abbrev pub refuse_setting : RefusedQuestion → Setting
 refuse_setting q = Refuse q.question q.refusal
 
+-- a memory type's flags and heap
 abbrev pub type_setting : MemoryTypeInfo → Setting
 type_setting t = MemoryType t.property_flags.0 t.heap_index
 

@@ -1,5 +1,5 @@
 -- What the reader makes of a whole trace that a capture wrote.
-use Rattle.std.specs.Prelude.{◌≡◌, ℕ, ◌∷◌, ◌++◌, List, [], map}
+use Rattle.std.specs.Prelude.{◌≡◌, ℕ, ◌∷◌, ◌++◌, List, [], map, Bool, true, false}
 use Rattle.std.specs.List.{flat_map}
 use Rattle.gpu_capture.specs.declared.answer.Answer.{Answer}
 use Rattle.gpu_capture.specs.declared.answer.Answer.TheVariants.{Granted, Refused}
@@ -17,10 +17,15 @@ pub data Part (S : Type 0) : Type 0 where
   Calls : Call → Part S
   Ends : Part S
 
--- the lines of a device with these settings, behind whose first questions these calls were made, and whose allocator is gone
-abbrev pub parts_of : {S : Type 0} → (refuse : RefusedQuestion → S) → (settings : List S) → (questions : ℕ) → List Call → List (Part S)
-parts_of refuse settings questions calls =
-    map Sets (settings ++ map refuse (refused_in questions (flat_map answers_of calls))) ++ Makes ∷ (map Calls calls ++ Ends ∷ [])
+-- `destroy`, where the allocator is gone
+abbrev pub last_part : {S : Type 0} → (is_destroyed : Bool) → List (Part S)
+last_part false = []
+last_part true = Ends ∷ []
+
+-- the lines of a device with these settings, and of these calls of its allocator; so many questions were asked before them
+abbrev pub parts_of : {S : Type 0} → (refuse : RefusedQuestion → S) → (settings : List S) → (questions : ℕ) → List Call → (is_destroyed : Bool) → List (Part S)
+parts_of refuse settings questions calls is_destroyed =
+    map Sets (settings ++ map refuse (refused_in questions (flat_map answers_of calls))) ++ Makes ∷ (map Calls calls ++ last_part is_destroyed)
 
 -- what a driver's code may be
 abbrev pub FitsAnswer : Answer → Type 0

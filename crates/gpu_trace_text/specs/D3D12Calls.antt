@@ -24,7 +24,7 @@ use Rattle.gpu_trace_text.specs.declared.d3d12.setting.Setting.TheVariants.{Tier
 use Rattle.gpu_trace_text.specs.declared.device.setting.Setting.TheVariants.{Sizes, Refuse}
 use Rattle.gpu_trace_text.specs.declared.dialect.Line.TheVariants as lines
 
--- a committed resource of these bytes is made, as a buffer in whole units of 65,536 bytes, under a name as a trace has it
+-- a committed resource is made, as a buffer of whole units of 65,536 bytes, where 64 bits hold them, under a name as a trace has it
 pub record IsCommitted (r : D3D12Request) (w : WantedResource) : Type 0 where
   pub memory : w.memory ≡ Own (heap_properties r.location) (record { 0 = 0 })
   pub location : w.location ≡ r.location
@@ -35,6 +35,7 @@ pub record IsCommitted (r : D3D12Request) (w : WantedResource) : Type 0 where
   pub clear : w.clear_value ≡ None
   pub name : string_bytes w.name ≡ name_word r.name.now
 
+-- the line makes that committed resource under its number
 abbrev pub IsCreate : (number : ℕ) → D3D12Request → Line → Type 0
 IsCreate number r (lines.Asks (Create key w)) = (key ≡ number) × IsCommitted r w
 IsCreate number r _ = ⊥
@@ -43,7 +44,7 @@ IsCreate number r _ = ⊥
 abbrev pub FitsCall : Call → Type 0
 FitsCall (calls.Allocated number (D3D12 r) answers) = (number < 2 ^ 64) × FitsCaptured r × All FitsAnswer answers
 FitsCall (calls.Moved from to (D3D12 r)) = (from < 2 ^ 64) × (to < 2 ^ 64) × FitsCaptured r
-FitsCall (calls.Committed number r answers) = (number < 2 ^ 64) × FitsCaptured r × All FitsAnswer answers
+FitsCall (calls.Committed number r answers) = (number < 2 ^ 64) × (r.size < 2 ^ 64) × All FitsAnswer answers
 FitsCall (calls.Freed number) = number < 2 ^ 64
 FitsCall (calls.Released number) = number < 2 ^ 64
 FitsCall (calls.Renamed number name) = number < 2 ^ 64
@@ -65,5 +66,6 @@ IsCall c l = ⊥
 abbrev pub refuse_setting : RefusedQuestion → Setting
 refuse_setting q = Shared (Refuse q.question q.refusal)
 
+-- the heap tier, and block sizes
 abbrev pub device_settings : ResourceHeapTier → BlockSizes → List Setting
 device_settings tier sizes = Tier (Ok tier) ∷ Shared (Sizes sizes.device sizes.host sizes.max_device sizes.max_host) ∷ []

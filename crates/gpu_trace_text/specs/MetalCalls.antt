@@ -36,5 +36,6 @@ IsCall c l = ⊥
 abbrev pub refuse_setting : RefusedQuestion → Setting
 refuse_setting q = Shared (Refuse q.question q.refusal)
 
+-- whether there is a residency set, and block sizes
 abbrev pub device_settings : (has_set : Bool) → BlockSizes → List Setting
 device_settings has_set sizes = Residency has_set ∷ Shared (Sizes sizes.device sizes.host sizes.max_device sizes.max_host) ∷ []

@@ -1,11 +1,18 @@
 //! Laws of captures, each the contract of a function that does nothing: what a capture wrote reads back.
 
-ghost use Rattle.std.specs.Prelude.{◌≡◌, ℕ, ◌<◌, ◌^◌, ◌++◌, List, Option, true, [], All};
+ghost use Rattle.std.specs.Prelude.{◌≡◌, ℕ, ◌<◌, ◌^◌, ◌++◌, List, Option, [], All, Bool};
 ghost use Rattle.gpu_capture.specs.declared.request.Request.TheVariants.{Vulkan};
 ghost use Rattle.gpu_capture.specs.declared.request.VulkanRequest.{VulkanRequest};
 ghost use Rattle.gpu_capture.specs.Line.{line_of, name_word};
 ghost use Rattle.gpu_capture.specs.Requests.{alloc_line, move_line};
 ghost use Rattle.gpu_capture.specs.Words.{budget_words, free_words, rename_words};
+ghost use Rattle.gpu_capture.specs.declared.capture.CaptureEnd.TheVariants.{Whole};
+ghost use Rattle.gpu_capture.specs.declared.device.BlockSizes.{BlockSizes};
+ghost use Rattle.gpu_capture.specs.declared.device.VulkanDevice.{VulkanDevice};
+ghost use Rattle.gpu_capture.specs.CaptureState.{CaptureState, text};
+ghost use Rattle.gpu_capture.specs.Devices.{vulkan_lines};
+ghost use Rattle.gpu_capture.specs.History.{Call, Kept};
+ghost use Rattle.gpu_capture.specs.Keeps.{Keeps, blank, with_lines};
 ghost use Rattle.gpu_run.specs.declared.vulkan.command.Command.TheVariants.{Free, SetBudget};
 ghost use Rattle.gpu_trace_text.specs.Dialect.{new_words, destroy_words};
 ghost use Rattle.gpu_trace_text.specs.Ask.{FitsBudget};
@@ -14,13 +21,6 @@ ghost use Rattle.gpu_trace_text.specs.Line.{Means};
 ghost use Rattle.gpu_trace_text.specs.Setting.{words as setting_words, Fits as FitsSetting};
 ghost use Rattle.gpu_trace_text.specs.declared.device.setting.Setting.{Setting};
 ghost use Rattle.gpu_trace_text.specs.declared.dialect.Line.TheVariants as lines;
-ghost use Rattle.gpu_capture.specs.declared.capture.CaptureEnd.TheVariants.{Whole};
-ghost use Rattle.gpu_capture.specs.declared.device.BlockSizes.{BlockSizes};
-ghost use Rattle.gpu_capture.specs.declared.device.VulkanDevice.{VulkanDevice};
-ghost use Rattle.gpu_capture.specs.CaptureState.{CaptureState, text};
-ghost use Rattle.gpu_capture.specs.Devices.{vulkan_lines};
-ghost use Rattle.gpu_capture.specs.History.{Call, Kept};
-ghost use Rattle.gpu_capture.specs.Keeps.{Keeps, blank, with_lines};
 ghost use Rattle.gpu_trace_text.specs.CapturedCalls.{FitsCall, IsCall, refuse_setting, device_settings};
 ghost use Rattle.gpu_trace_text.specs.CapturedTrace.{ReadsAs, parts_of};
 
@@ -87,15 +87,15 @@ pub fn destroy_reads_back()
         (line_of destroy_words ++ rest) rest }
 {}
 
-/// A whole trace: what a capture wrote of a device and of its calls, all of which it kept, is read as the device's settings, the questions that
-/// were refused, and these calls, and as nothing else.
+/// A whole trace: what a capture wrote of a device and of its allocator's calls, all of which it kept, is read as the device's settings, the
+/// questions that were refused, these calls, and the allocator's end where that came, and as nothing else.
 #[tactic(auto, using(crate::proofs::CapturedCalls::trace_reads))]
 pub fn trace_reads_back(alloc: Global)
     ensures { (device : VulkanDevice) (sizes : BlockSizes) (questions : ℕ) (calls : List Call)
-        (begun done : CaptureState)
+        (is_destroyed : Bool) (begun done : CaptureState)
         → Keeps blank (with_lines blank (vulkan_lines device sizes) [] questions) begun
         → Kept calls begun done → done.end ≡ Whole
         → All FitsSetting (device_settings device sizes) → All FitsCall calls
-        → ReadsAs Means IsCall (parts_of refuse_setting (device_settings device sizes) questions calls)
-        (text done true) }
+        → ReadsAs Means IsCall (parts_of refuse_setting (device_settings device sizes) questions calls
+        is_destroyed) (text done is_destroyed) }
 {}

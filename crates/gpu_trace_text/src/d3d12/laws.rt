@@ -1,12 +1,20 @@
 //! Laws of captures of DirectX 12, each the contract of a function that does nothing: what a capture wrote reads back.
 
-ghost use Rattle.std.specs.Prelude.{◌≡◌, ℕ, ◌<◌, ◌^◌, ◌++◌, List, Option, true, [], All};
+ghost use Rattle.std.specs.Prelude.{◌≡◌, ℕ, ◌<◌, ◌^◌, ◌++◌, List, Option, [], All, Bool};
+ghost use Rattle.gpu_device.specs.declared.d3d12.types.ResourceHeapTier.{ResourceHeapTier};
 ghost use Rattle.gpu_capture.specs.declared.request.Request.TheVariants as requests;
 ghost use Rattle.gpu_capture.specs.declared.request.D3D12Request.{D3D12Request};
 ghost use Rattle.gpu_capture.specs.D3D12.{release_words};
 ghost use Rattle.gpu_capture.specs.Line.{line_of, name_word};
 ghost use Rattle.gpu_capture.specs.Requests.{alloc_line, move_line};
 ghost use Rattle.gpu_capture.specs.Words.{budget_words, free_words, rename_words};
+ghost use Rattle.gpu_capture.specs.declared.capture.CaptureEnd.TheVariants.{Whole};
+ghost use Rattle.gpu_capture.specs.declared.device.BlockSizes.{BlockSizes};
+ghost use Rattle.gpu_capture.specs.CaptureState.{CaptureState, text};
+ghost use Rattle.gpu_capture.specs.Devices.{d3d12_lines};
+ghost use Rattle.gpu_capture.specs.History.{Call, Kept};
+ghost use Rattle.gpu_capture.specs.Keeps.{Keeps, blank, with_lines};
+ghost use Rattle.gpu_capture.specs.Requests.{committed_line};
 ghost use Rattle.gpu_run.specs.declared.d3d12.command.Command.TheVariants.{Free, Release, SetBudget};
 ghost use Rattle.gpu_trace_text.specs.Dialect.{new_words, destroy_words};
 ghost use Rattle.gpu_trace_text.specs.Ask.{FitsBudget};
@@ -16,14 +24,6 @@ ghost use Rattle.gpu_trace_text.specs.D3D12Line.{Means};
 ghost use Rattle.gpu_trace_text.specs.D3D12Setting.{words as setting_words, Fits as FitsSetting};
 ghost use Rattle.gpu_trace_text.specs.declared.d3d12.setting.Setting.{Setting};
 ghost use Rattle.gpu_trace_text.specs.declared.dialect.Line.TheVariants as lines;
-ghost use Rattle.gpu_device.specs.declared.d3d12.types.ResourceHeapTier.{ResourceHeapTier};
-ghost use Rattle.gpu_capture.specs.declared.capture.CaptureEnd.TheVariants.{Whole};
-ghost use Rattle.gpu_capture.specs.declared.device.BlockSizes.{BlockSizes};
-ghost use Rattle.gpu_capture.specs.CaptureState.{CaptureState, text};
-ghost use Rattle.gpu_capture.specs.Devices.{d3d12_lines};
-ghost use Rattle.gpu_capture.specs.History.{Call, Kept};
-ghost use Rattle.gpu_capture.specs.Keeps.{Keeps, blank, with_lines};
-ghost use Rattle.gpu_capture.specs.Requests.{committed_line};
 ghost use Rattle.gpu_trace_text.specs.Any.{d3d12_line};
 ghost use Rattle.gpu_trace_text.specs.D3D12Calls.{FitsCall, IsCall, IsCreate, refuse_setting, device_settings};
 ghost use Rattle.gpu_trace_text.specs.CapturedTrace.{IsOfSort, parts_of};
@@ -48,7 +48,7 @@ pub fn move_reads_back(alloc: Global)
 /// A committed resource: a buffer of as many whole units of 65,536 bytes.
 #[tactic(auto, using(crate::proofs::D3D12Created::create_reads))]
 pub fn committed_reads_back(alloc: Global)
-    ensures { (number : ℕ) (r : D3D12Request) (rest : List ℕ) → number < 2 ^ 64 → FitsCaptured r
+    ensures { (number : ℕ) (r : D3D12Request) (rest : List ℕ) → number < 2 ^ 64 → r.size < 2 ^ 64
         → BeginsWith Means (IsCreate number r) (committed_line number r ++ rest) rest }
 {}
 
@@ -106,15 +106,15 @@ pub fn destroy_reads_back()
         (line_of destroy_words ++ rest) rest }
 {}
 
-/// A whole trace: what a capture wrote of a device and of its calls, all of which it kept, is read as the device's settings, the questions that
-/// were refused, and these calls, and as nothing else.
+/// A whole trace: what a capture wrote of a device and of its allocator's calls, all of which it kept, is read as the device's settings, the
+/// questions that were refused, these calls, and the allocator's end where that came, and as nothing else.
 #[tactic(auto, using(crate::proofs::D3D12Calls::trace_reads))]
 pub fn trace_reads_back(alloc: Global)
     ensures { (tier : ResourceHeapTier) (sizes : BlockSizes) (questions : ℕ) (calls : List Call)
-        (begun done : CaptureState)
+        (is_destroyed : Bool) (begun done : CaptureState)
         → Keeps blank (with_lines blank (d3d12_lines tier sizes) [] questions) begun
         → Kept calls begun done → done.end ≡ Whole
         → All FitsSetting (device_settings tier sizes) → All FitsCall calls
-        → IsOfSort Means IsCall d3d12_line (parts_of refuse_setting (device_settings tier sizes) questions calls)
-        (text done true) }
+        → IsOfSort Means IsCall d3d12_line (parts_of refuse_setting (device_settings tier sizes) questions calls
+        is_destroyed) (text done is_destroyed) }
 {}

@@ -1,11 +1,17 @@
 //! Laws of captures of Metal, each the contract of a function that does nothing: what a capture wrote reads back.
 
-ghost use Rattle.std.specs.Prelude.{◌≡◌, ℕ, ◌<◌, ◌^◌, [], ◌∷◌, ◌++◌, List, Option, codes, true, All, Bool};
+ghost use Rattle.std.specs.Prelude.{◌≡◌, ℕ, ◌<◌, ◌^◌, [], ◌∷◌, ◌++◌, List, Option, codes, All, Bool};
 ghost use Rattle.gpu_capture.specs.declared.request.Request.TheVariants as requests;
 ghost use Rattle.gpu_capture.specs.declared.request.MetalRequest.{MetalRequest};
 ghost use Rattle.gpu_capture.specs.Line.{line_of};
 ghost use Rattle.gpu_capture.specs.Requests.{alloc_line, move_line};
 ghost use Rattle.gpu_capture.specs.Words.{budget_words, free_words};
+ghost use Rattle.gpu_capture.specs.declared.capture.CaptureEnd.TheVariants.{Whole};
+ghost use Rattle.gpu_capture.specs.declared.device.BlockSizes.{BlockSizes};
+ghost use Rattle.gpu_capture.specs.CaptureState.{CaptureState, text};
+ghost use Rattle.gpu_capture.specs.Devices.{metal_lines};
+ghost use Rattle.gpu_capture.specs.History.{Call, Kept};
+ghost use Rattle.gpu_capture.specs.Keeps.{Keeps, blank, with_lines};
 ghost use Rattle.gpu_run.specs.declared.metal.command.Command.TheVariants.{Commit, Free, SetBudget};
 ghost use Rattle.gpu_trace_text.specs.Dialect.{new_words, destroy_words};
 ghost use Rattle.gpu_trace_text.specs.Ask.{FitsBudget};
@@ -15,12 +21,6 @@ ghost use Rattle.gpu_trace_text.specs.MetalLine.{Means};
 ghost use Rattle.gpu_trace_text.specs.MetalSetting.{words as setting_words, Fits as FitsSetting};
 ghost use Rattle.gpu_trace_text.specs.declared.metal.setting.Setting.{Setting};
 ghost use Rattle.gpu_trace_text.specs.declared.dialect.Line.TheVariants as lines;
-ghost use Rattle.gpu_capture.specs.declared.capture.CaptureEnd.TheVariants.{Whole};
-ghost use Rattle.gpu_capture.specs.declared.device.BlockSizes.{BlockSizes};
-ghost use Rattle.gpu_capture.specs.CaptureState.{CaptureState, text};
-ghost use Rattle.gpu_capture.specs.Devices.{metal_lines};
-ghost use Rattle.gpu_capture.specs.History.{Call, Kept};
-ghost use Rattle.gpu_capture.specs.Keeps.{Keeps, blank, with_lines};
 ghost use Rattle.gpu_trace_text.specs.Any.{metal_line};
 ghost use Rattle.gpu_trace_text.specs.MetalCalls.{FitsCall, IsCall, refuse_setting, device_settings};
 ghost use Rattle.gpu_trace_text.specs.CapturedTrace.{IsOfSort, parts_of};
@@ -87,15 +87,15 @@ pub fn destroy_reads_back()
         (line_of destroy_words ++ rest) rest }
 {}
 
-/// A whole trace: what a capture wrote of a device and of its calls, all of which it kept, is read as the device's settings, the questions that
-/// were refused, and these calls, and as nothing else.
+/// A whole trace: what a capture wrote of a device and of its allocator's calls, all of which it kept, is read as the device's settings, the
+/// questions that were refused, these calls, and the allocator's end where that came, and as nothing else.
 #[tactic(auto, using(crate::proofs::MetalCalls::trace_reads))]
 pub fn trace_reads_back(alloc: Global)
     ensures { (has_set : Bool) (sizes : BlockSizes) (questions : ℕ) (calls : List Call)
-        (begun done : CaptureState)
+        (is_destroyed : Bool) (begun done : CaptureState)
         → Keeps blank (with_lines blank (metal_lines has_set sizes) [] questions) begun
         → Kept calls begun done → done.end ≡ Whole
         → All FitsSetting (device_settings has_set sizes) → All FitsCall calls
-        → IsOfSort Means IsCall metal_line (parts_of refuse_setting (device_settings has_set sizes) questions calls)
-        (text done true) }
+        → IsOfSort Means IsCall metal_line (parts_of refuse_setting (device_settings has_set sizes) questions calls
+        is_destroyed) (text done is_destroyed) }
 {}
