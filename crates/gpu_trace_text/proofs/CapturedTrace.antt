@@ -1,5 +1,5 @@
 -- A whole trace that a capture wrote reads back, in each sort of traces.
-use Rattle.std.proofs.Common.{◌≡◌, refl, sym, ap, ◌∙◌, subst, ℕ, ◌+◌, ◌<◌, ◌^◌, List, [], ◌∷◌, ◌++◌, length, map, map-append, append_assoc, append-nil, length-append, Bool, true, false, arith}
+use Rattle.std.proofs.Common.{◌≡◌, refl, sym, ap, ◌∙◌, subst, ℕ, ◌+◌, ◌<◌, ◌^◌, List, [], ◌∷◌, ◌++◌, length, map, append_assoc, append-nil, length-append, Bool, true, false, arith}
 use Rattle.std.specs.List.{flat_map, All}
 use Rattle.std.proofs.lemmas.List.Concat.{flat_map-append}
 use Rattle.std.proofs.lemmas.List.Elements.{All-nil, All-cons, All-head, All-tail, All-append}
@@ -108,7 +108,7 @@ module _ {S C O : Type 0} (Means : List ℕ → Line S C O → Type 0) (IsCall :
       let told = history cs begun done kept whole in
       let start = kept_whole blank (with_lines blank (first ++ flat_map setting_line settings) [] questions) begun begins told.was in
       let answers = flat_map answers_of cs in
-      let asked : begun.questions ≡ questions = ap (λ (s : CaptureState). s.questions) start.2 in
+      let asked : begun.questions ≡ questions = ap (λ (s : CaptureState). s.questions) start.2 ∙ omega arith in
       let room = told.room (subst HasRoom (sym start.2) start.1) in
       let few : questions + length answers < 2 ^ 64 = omega (arith, room.count, told.adds.questions_are, asked) in
       let refused = refusals questions answers in

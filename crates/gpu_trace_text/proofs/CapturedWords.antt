@@ -70,7 +70,7 @@ clean_refusal Null f = clean_text (codes "null") refl
 -- ---- words that say one thing
 
 -- texts that begin with other bytes
-first_differs : {xs ys : List ℕ} → xs ≡ ys → bytes_eq (take 1 xs) (take 1 ys) ≡ false → ⊥
+pub first_differs : {xs ys : List ℕ} → xs ≡ ys → bytes_eq (take 1 xs) (take 1 ys) ≡ false → ⊥
 first_differs {xs} {ys} e f = differ (take 1 xs) (take 1 ys) false (sym f) refl (ap (take 1) e)
 
 abbrev pub first_word : List (List ℕ) → List ℕ

@@ -44,20 +44,20 @@ use Rattle.gpu_d3d12.specs.declared.category.ResourceCategory.TheVariants as res
 
 -- ---- words
 
-command_kind : (c : Command) → kinds (command.words c) ≡ sets → ⊥
+pub command_kind : (c : Command) → kinds (command.words c) ≡ sets → ⊥
 command_kind (asked.Alloc key q) e = cc
 command_kind c e = cc
 
-command_ends : (c : Command) → kinds (command.words c) ≡ ends → ⊥
+pub command_ends : (c : Command) → kinds (command.words c) ≡ ends → ⊥
 command_ends (asked.Alloc key q) e = cc
 command_ends c e = cc
 
-setting_kind : (s : Setting) → kinds (setting.words s) ≡ sets
+pub setting_kind : (s : Setting) → kinds (setting.words s) ≡ sets
 setting_kind (settings.Tier tier) = refl
 setting_kind (settings.Interface version) = refl
 setting_kind (settings.Shared s) = shared_kind s
 
-look_kind : (l : Look) → kinds (look_words l) ≡ tells
+pub look_kind : (l : Look) → kinds (look_words l) ≡ tells
 look_kind Asked = refl
 
 tier-one : (a b : Result ResourceHeapTier ℤ) → setting.FitsTier a → setting.FitsTier b → setting.tier_words a ≡ setting.tier_words b → b ≡ a
@@ -74,7 +74,7 @@ version-one versions.Device10 versions.Device10 e = refl
 version-one versions.Device12 versions.Device12 e = refl
 version-one a b e = absurd (differ (setting.version_word a) (setting.version_word b) false refl refl e)
 
-own_setting_one : (s t : Setting) → setting.Fits s → setting.Fits t → setting.words s ≡ setting.words t → t ≡ s
+pub own_setting_one : (s t : Setting) → setting.Fits s → setting.Fits t → setting.words s ≡ setting.words t → t ≡ s
 own_setting_one (settings.Tier a) (settings.Tier b) f g e = let k : setting.tier_words a ≡ setting.tier_words b = cc in ap settings.Tier (tier-one a b f g k)
 own_setting_one (settings.Interface a) (settings.Interface b) f g e =
     let k : setting.version_word a ≡ setting.version_word b = cc in ap settings.Interface (version-one a b k)

@@ -41,7 +41,7 @@ use Rattle.gpu_trace_text.specs.D3D12Numbers.{IsSeparator, AreNumbers, numbers_w
 use Rattle.gpu_trace_text.specs.D3D12Resource.{category_word, dimension_word, initial_word, formats_word, clear_word, place_word, plain_desc, wanted_words, FitsClear, FitsDesc, FitsFormats, FitsInitial, FitsMemory, FitsWanted}
 use Rattle.gpu_trace_text.specs.Spelled.{Spells}
 use Rattle.gpu_trace_text.specs.declared.dialect.Line.TheVariants as lines
-use Rattle.gpu_trace_text.proofs.CapturedWords.{clean_text, clean_location, location-one, is_name, none_digits, text_of, other}
+use Rattle.gpu_trace_text.proofs.CapturedWords.{clean_text, clean_location, location-one, is_name, none_digits, text_of, first_differs, other}
 use Rattle.gpu_trace_text.proofs.D3D12Captured.{said, clean_category, category-same, category-one}
 use Rattle.gpu_trace_text.proofs.D3D12Meaning.{colon, comma, are_numbers}
 use Rattle.gpu_trace_text.proofs.D3D12Parts.{IsSmall, parts_of}
@@ -75,7 +75,7 @@ initial-one : (i : ResourceStateOrBarrierLayout) → FitsInitial i → codes "st
 initial-one (ResourceState s) fits e =
     let same : codes "0" ≡ decimal s = cc in
     ap ResourceState (decimal_injective s 0 (omega arith) (omega arith) (sym same ∙ sym no_digit))
-initial-one (BarrierLayout l) fits e = absurd (let no : 115 ≡ 108 = cc in omega arith)
+initial-one (BarrierLayout l) fits e = absurd (first_differs e refl)
 
 dimension-one : (d : ResourceDimension) → codes "buffer" ≡ dimension_word d → d ≡ dimensions.Buffer
 dimension-one dimensions.Buffer e = refl
@@ -94,10 +94,10 @@ units_fit size small = by_test (nat_lt ((size + 65535) / 65536 * 65536) (2 ^ 64)
     by_test true e = grind (arith, nat_tests)
     by_test false e = small
 
-no_formats : Global → Vec Format Global
+abbrev no_formats : Global → Vec Format Global
 no_formats g = record { ptr = null_ptr; len = 0; cap = 0; alloc = g; items = []; ok = (refl, omega arith); small = omega arith }
 
-wanted_of : Global → D3D12Request → WantedResource
+abbrev wanted_of : Global → D3D12Request → WantedResource
 wanted_of g r = record {
   name = (text_of g r.name.now).0;
   location = r.location;

@@ -89,7 +89,6 @@ pub fn destroy_reads_back()
 
 /// A whole trace: what a capture wrote of a device and of its allocator's calls, all of which it kept, is read as the device's settings, the
 /// questions that were refused, these calls, and the allocator's end where that came, and as nothing else.
-#[tactic(auto, using(crate::proofs::CapturedCalls::trace_reads))]
 pub fn trace_reads_back(alloc: Global)
     ensures { (device : VulkanDevice) (sizes : BlockSizes) (questions : ℕ) (calls : List Call)
         (is_destroyed : Bool) (begun done : CaptureState)

@@ -46,7 +46,6 @@ pub fn move_reads_back(alloc: Global)
 {}
 
 /// A committed resource: a buffer of as many whole units of 65,536 bytes.
-#[tactic(auto, using(crate::proofs::D3D12Created::create_reads))]
 pub fn committed_reads_back(alloc: Global)
     ensures { (number : ℕ) (r : D3D12Request) (rest : List ℕ) → number < 2 ^ 64 → r.size < 2 ^ 64
         → BeginsWith Means (IsCreate number r) (committed_line number r ++ rest) rest }
@@ -108,7 +107,6 @@ pub fn destroy_reads_back()
 
 /// A whole trace: what a capture wrote of a device and of its allocator's calls, all of which it kept, is read as the device's settings, the
 /// questions that were refused, these calls, and the allocator's end where that came, and as nothing else.
-#[tactic(auto, using(crate::proofs::D3D12Calls::trace_reads))]
 pub fn trace_reads_back(alloc: Global)
     ensures { (tier : ResourceHeapTier) (sizes : BlockSizes) (questions : ℕ) (calls : List Call)
         (is_destroyed : Bool) (begun done : CaptureState)
