@@ -11,6 +11,7 @@ use Rattle.std_alloc.specs.contracts.string.String as String
 use Rattle.std_alloc.specs.contracts.vec.Vec as Vec
 use Rattle.std_heap.specs.contracts.Global as Heap
 use Rattle.std_heap.specs.contracts.GlobalAllocator.TheImpl.{ghosts}
+use Rattle.gpu_rows.specs.contracts.rows.Rows as Paged
 use Rattle.gpu_block_gaps.specs.contracts.class_set.ClassSet as ClassSet
 use Rattle.gpu_block_gaps.specs.contracts.classed.ClassedGaps as ClassedGaps
 use Rattle.gpu_block_gaps.specs.contracts.forest.Forest as Forest
@@ -24,6 +25,7 @@ use Rattle.gpu_block_chunks.specs.contracts.label.Label as Label
 use Rattle.gpu_block_chunks.specs.contracts.name.Name as Name
 use Rattle.gpu_block_chunks.specs.contracts.chunk.Chunk as Chunk
 use Rattle.gpu_block_chunks.specs.contracts.chain.chunk_ids.ChunkIds as ChunkIds
+use Rattle.gpu_block_chunks.specs.contracts.chain.eras.Eras as Eras
 use Rattle.gpu_cost.specs.contracts.cost.Cost as Cost
 use Rattle.gpu_block_chunks.specs.contracts.chain.slot_link.SlotLink as SlotLink
 use Rattle.gpu_block_chunks.specs.contracts.chain.slots.Cell as Cell
@@ -77,6 +79,9 @@ use Rattle.gpu_ring.specs.contracts.ring.Ring as Ring
 use Rattle.gpu_c.specs.contracts.memory_type.AwaitingType as AwaitingType
 use Rattle.gpu_c.specs.contracts.virtual_block.VirtualBlock as VirtualBlock
 
+paged_send : (T : RattleType) → IsSend T → IsSend (Paged.the_row T)
+paged_send T s = search (sendable, Vec-send) depth 20
+
 name_send : IsSend Name.the_row
 name_send = search (sendable, Vec-send, Box-send) depth 20
 
@@ -93,7 +98,7 @@ record_send : IsSend PackedRecord.the_row
 record_send = let t = tagged_send in search sendable depth 20
 
 thread_send : IsSend Thread.the_row
-thread_send = let r = record_send in search (sendable, Vec-send) depth 20
+thread_send = let r = record_send in search (sendable, paged_send) depth 20
 
 classes_send : IsSend ClassSet.the_row
 classes_send = search (sendable, Vec-send) depth 20
@@ -108,7 +113,7 @@ root_send : IsSend (Option.the_field (Node.the_field).row).row
 root_send = let n = node_send in search sendable depth 20
 
 forest_send : IsSend (Forest.the_field).row
-forest_send = let f = fork_send in let r = root_send in let c = classes_send in search (sendable, Vec-send) depth 20
+forest_send = let f = fork_send in let r = root_send in let c = classes_send in search (sendable, paged_send, Vec-send) depth 20
 
 classed_send : IsSend ClassedGaps.the_row
 classed_send = let t = thread_send in let f = forest_send in search sendable depth 20
@@ -126,7 +131,7 @@ cell_send : IsSend (Cell.the_field).row
 cell_send = let l = link_send in search sendable depth 20
 
 slots_send : IsSend Slots.the_row
-slots_send = let c = cell_send in let n = label_send in let l = link_send in search (sendable, Vec-send) depth 20
+slots_send = let c = cell_send in let n = label_send in let l = link_send in search (sendable, paged_send) depth 20
 
 pub key_send : IsSend u64
 key_send = search sendable
@@ -134,8 +139,11 @@ key_send = search sendable
 pub place_send : IsSend usize
 place_send = search sendable
 
+eras_send : IsSend (Eras.the_field).row
+eras_send = search (sendable, array_send) depth 20
+
 ids_send : IsSend (ChunkIds.the_field).row
-ids_send = let l = link_send in search (sendable, Vec-send) depth 20
+ids_send = let l = link_send in let e = eras_send in search (sendable, paged_send, Vec-send) depth 20
 
 nodes_send : IsSend Nodes.the_row
 nodes_send = let s = slots_send in let i = ids_send in search sendable depth 20
