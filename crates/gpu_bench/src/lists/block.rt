@@ -20,8 +20,10 @@ impl Block {
         if size == 0 || !granularity.is_power_of_two() {
             return None;
         }
-        let list = FreeListAllocator::new(alloc, size, granularity).ok()?;
-        Some(Block { list, granularity })
+        match FreeListAllocator::new(alloc, size, granularity) {
+            Ok(list) => Some(Block { list, granularity }),
+            Err(_) => None,
+        }
     }
 
     /// The number of a new piece, where it is granted.
