@@ -38,6 +38,13 @@ pub struct Capture {
     changes: Cell<u64>,
 }
 
+/// The library's call that records a request of an API: its number, what was asked for, a name, and what the driver answered.
+pub(crate) type RecordRequest<R> =
+    unsafe extern "C" fn(*mut Handle, u64, *const R, *const u8, usize, *const CaptureAnswer, usize) -> u32;
+
+/// The library's call that records a proposed move: the numbers of both places, the request again, and a name.
+pub(crate) type RecordMove<R> = unsafe extern "C" fn(*mut Handle, u64, u64, *const R, *const u8, usize) -> u32;
+
 /// What the driver answered to the questions of a request. One that is captured has four at most: two attempts in Vulkan, whose allocator has no
 /// smaller blocks then, each with a question for memory and one for its mapping. Of another one no more are kept.
 #[derive(Debug, Default)]
@@ -92,6 +99,36 @@ impl Capture {
     /// Records what a call of the library is told, which never refuses it.
     pub(crate) fn record(&mut self, call: impl FnOnce(*mut Handle) -> u32) {
         check_unrefused(call(self.handle.as_ptr()));
+    }
+
+    /// Records a request under its number, which stands for what it made, and what the driver answered.
+    ///
+    /// # Safety
+    ///
+    /// The call is one of the library's.
+    pub(crate) unsafe fn requested<R>(
+        &mut self,
+        call: RecordRequest<R>,
+        number: u64,
+        request: &R,
+        name: &str,
+        answers: &Answers,
+    ) {
+        let told = answers.told();
+        // SAFETY: the handle is this capture's alone, name and answers are as many as is said, and all of it outlives the call.
+        self.record(|capture| unsafe {
+            call(capture, number, request, name.as_ptr(), name.len(), told.as_ptr(), told.len())
+        });
+    }
+
+    /// Records a proposed move of the allocation with this number; the second place, where there is one, stands under `to`.
+    ///
+    /// # Safety
+    ///
+    /// The call is one of the library's.
+    pub(crate) unsafe fn moved<R>(&mut self, call: RecordMove<R>, number: u64, to: u64, request: &R, name: &str) {
+        // SAFETY: the handle is this capture's alone, the name's bytes are as many as is said, and all of it outlives the call.
+        self.record(|capture| unsafe { call(capture, number, to, request, name.as_ptr(), name.len()) });
     }
 
     /// Records that an allocation is freed.

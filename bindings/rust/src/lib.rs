@@ -2,8 +2,8 @@
 //!
 //! [`vulkan`] has the allocator under the names of the crate gpu-allocator: it asks the driver for large blocks, cuts them up by best fit,
 //! and gives them back; [`d3d12`] has the one of DirectX 12. [`virtual_block`] and [`memory_type`] are what it stands on, for any graphics API:
-//! one block of numbers, and the blocks of one memory type. [`ring`] is a block of numbers for uploads, freed a frame at a time; [`vulkan::UploadRing`] has memory behind it.
-//! [`plan()`] lets transient resources of a frame share memory.
+//! one block of numbers, and the blocks of one memory type. [`ring`] is a block of numbers for uploads, freed a frame at a time;
+//! [`vulkan::UploadRing`] has memory behind it. [`plan()`] lets transient resources of a frame share memory.
 //!
 //! What decides where a piece lies, which block is asked for and which goes back is the library `libgpu_c.a`, proved and built from
 //! contracts; this crate asks the driver, maps memory, and owns the handles. All of it may go from thread to thread, and serves

@@ -3,8 +3,8 @@
 use super::allocator::{AllocationCreateDesc, Allocator};
 use super::device::Made;
 use super::machine::raw_request;
-use crate::capture::{has_line, Answers, Capture};
-use crate::raw::{self, HeapsSettings};
+use crate::capture::{has_line, Answers, Capture, RecordRequest};
+use crate::raw::{self, HeapsRequest, HeapsSettings};
 use crate::Result;
 
 impl Answers {
@@ -24,49 +24,6 @@ impl Capture {
         Capture::begun(|capture| unsafe { raw::pilhangko_raw_capture_of_heaps(capture, settings) })
     }
 
-    /// Records a request under its number, which stands for its allocation, and what the driver answered.
-    fn heaps_allocated(&mut self, number: u64, desc: &AllocationCreateDesc<'_>, answers: &Answers) {
-        let (request, name, told) = (raw_request(desc), desc.name, answers.told());
-        // SAFETY: the handle is this capture's alone, name and answers are as many as is said, and all of it outlives the call.
-        self.record(|capture| unsafe {
-            raw::pilhangko_raw_capture_heaps_allocated(
-                capture,
-                number,
-                &request,
-                name.as_ptr(),
-                name.len(),
-                told.as_ptr(),
-                told.len(),
-            )
-        });
-    }
-
-    /// Records what a committed resource needs under its number, and what the driver answered.
-    fn heaps_committed(&mut self, number: u64, needs: &AllocationCreateDesc<'_>, answers: &Answers) {
-        let (request, name, told) = (raw_request(needs), needs.name, answers.told());
-        // SAFETY: the handle is this capture's alone, name and answers are as many as is said, and all of it outlives the call.
-        self.record(|capture| unsafe {
-            raw::pilhangko_raw_capture_heaps_committed(
-                capture,
-                number,
-                &request,
-                name.as_ptr(),
-                name.len(),
-                told.as_ptr(),
-                told.len(),
-            )
-        });
-    }
-
-    /// Records a proposed move of the allocation with this number; the second place, where there is one, stands under `to`.
-    fn heaps_moved(&mut self, number: u64, to: u64, desc: &AllocationCreateDesc<'_>) {
-        let (request, name) = (raw_request(desc), desc.name);
-        // SAFETY: the handle is this capture's alone, the name's bytes are as many as is said, and all of it outlives the call.
-        self.record(|capture| unsafe {
-            raw::pilhangko_raw_capture_heaps_moved(capture, number, to, &request, name.as_ptr(), name.len())
-        });
-    }
-
     /// Records that a committed resource is released.
     pub(super) fn released(&mut self, number: u64) {
         // SAFETY: the handle is this capture's alone.
@@ -83,13 +40,7 @@ impl Allocator {
         result: &Result<T>,
         answers: &Answers,
     ) {
-        if !has_line(result) {
-            return;
-        }
-        self.record_bounds();
-        if let Some(capture) = &mut self.capture {
-            capture.heaps_allocated(self.last_number + 1, desc, answers);
-        }
+        self.record_requested(raw::pilhangko_raw_capture_heaps_allocated, desc, result, answers);
     }
 
     /// What a committed resource needs, and what came of it.
@@ -99,12 +50,23 @@ impl Allocator {
         result: &Result<T>,
         answers: &Answers,
     ) {
+        self.record_requested(raw::pilhangko_raw_capture_heaps_committed, needs, result, answers);
+    }
+
+    fn record_requested<T>(
+        &mut self,
+        call: RecordRequest<HeapsRequest>,
+        desc: &AllocationCreateDesc<'_>,
+        result: &Result<T>,
+        answers: &Answers,
+    ) {
         if !has_line(result) {
             return;
         }
         self.record_bounds();
         if let Some(capture) = &mut self.capture {
-            capture.heaps_committed(self.last_number + 1, needs, answers);
+            // SAFETY: both callers name calls of the library's.
+            unsafe { capture.requested(call, self.last_number + 1, &raw_request(desc), desc.name, answers) };
         }
     }
 
@@ -112,7 +74,9 @@ impl Allocator {
     pub(super) fn record_moved(&mut self, number: u64, desc: &AllocationCreateDesc<'_>) {
         self.record_bounds();
         if let Some(capture) = &mut self.capture {
-            capture.heaps_moved(number, self.last_number + 1, desc);
+            let call = raw::pilhangko_raw_capture_heaps_moved;
+            // SAFETY: the call is the library's.
+            unsafe { capture.moved(call, number, self.last_number + 1, &raw_request(desc), desc.name) };
         }
     }
 

@@ -39,28 +39,16 @@ impl Capture {
 
     /// Records a request under its number, which stands for its allocation, and what the driver answered.
     pub(super) fn allocator_allocated(&mut self, number: u64, desc: &AllocationCreateDesc<'_>, answers: &Answers) {
-        let (request, name, told) = (raw_request(desc), desc.name, answers.told());
-        // SAFETY: the handle is this capture's alone, name and answers are as many as is said, and all of it outlives the call.
-        self.record(|capture| unsafe {
-            raw::pilhangko_raw_capture_allocator_allocated(
-                capture,
-                number,
-                &request,
-                name.as_ptr(),
-                name.len(),
-                told.as_ptr(),
-                told.len(),
-            )
-        });
+        let call = raw::pilhangko_raw_capture_allocator_allocated;
+        // SAFETY: the call is the library's.
+        unsafe { self.requested(call, number, &raw_request(desc), desc.name, answers) };
     }
 
     /// Records a proposed move of the allocation with this number; the second place, where there is one, stands under `to`.
     pub(super) fn allocator_moved(&mut self, number: u64, to: u64, desc: &AllocationCreateDesc<'_>) {
-        let (request, name) = (raw_request(desc), desc.name);
-        // SAFETY: the handle is this capture's alone, the name's bytes are as many as is said, and all of it outlives the call.
-        self.record(|capture| unsafe {
-            raw::pilhangko_raw_capture_allocator_moved(capture, number, to, &request, name.as_ptr(), name.len())
-        });
+        let call = raw::pilhangko_raw_capture_allocator_moved;
+        // SAFETY: the call is the library's.
+        unsafe { self.moved(call, number, to, &raw_request(desc), desc.name) };
     }
 }
 
