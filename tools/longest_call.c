@@ -1,6 +1,6 @@
 /* The longest single call while a virtual block is filled with 100,000 pieces, and while they are freed in mixed order: nanoseconds of the
- * thread's processor time, the least of nine fills. What makes a call long is that it fills a page of each table, and copies the chains' heads
- * where they double.
+ * thread's processor time, the least of nine fills. What makes a call long is that it fills a page of each table, and adds a quarter to the
+ * chains' heads, which may be copied.
  *     cc -O2 -Iinclude -o longest_call tools/longest_call.c c/pilhangko_heap.c crates/gpu_c/out/libgpu_c.a && ./longest_call */
 #define _GNU_SOURCE
 #include "pilhangko.h"

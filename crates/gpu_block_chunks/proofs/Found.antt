@@ -45,8 +45,9 @@ module _ (eras : Eras) (heads fs : List (Option ℕ)) (old new : List (Option Li
         found = record {
           chained = subst (AreChains (own_chain eras) heads fs) (sym numbers_kept) are.found.chained;
           known = subst (AreKnown eras) (sym numbers_kept) are.found.known;
-          chains = are.found.chains;
-          newest = are.found.newest;
+          short = are.found.short;
+          headed = are.found.headed;
+          eras_few = are.found.eras_few;
           enough = omega arith;
         };
         sound = subst (λ (ids : List (Option ℕ)). AreSound ids new) (sym numbers_kept) sound;
@@ -85,14 +86,16 @@ module _ (eras new_eras : Eras) (heads fs new_heads new_fs : List (Option ℕ)) 
   nodes_put prev next =
       let long = ids_long old.slots (length fs) are.found.enough in
       let few = put_few in
-      let had = are.found.chains in
+      let headed = are.found.headed in
+      let short = are.found.short in
       record {
         found = subst (λ (e : Eras). AreFound e new_heads new_fs new.slots) (sym raised) (record {
           chained = subst (AreChains (own_chain eras) new_heads new_fs) (sym put_numbers) put_chained;
           known = subst (AreKnown (record eras { latest = max eras.latest k })) (sym put_numbers) (put_known eras (ids_of old.slots (length fs)) s k put_within
               (no_number (ids_of old.slots (length fs)) old.slots s are.sound was_free) are.found.known);
-          chains = omega arith;
-          newest = are.found.newest;
+          short = omega arith;
+          headed = omega arith;
+          eras_few = are.found.eras_few;
           enough = omega arith;
         });
         sound = put_sound (ids_of old.slots (length fs)) (ids_of new.slots (length new_fs)) old.slots new.slots are.sound k s n put_numbers put_within fresh was_free changes.changed changes.others
@@ -126,13 +129,15 @@ module _ (eras new_eras : Eras) (heads fs new_heads new_fs : List (Option ℕ)) 
   pub nodes_out : AreNodes new_eras new_heads new_fs new.slots
   nodes_out =
       let enough = are.found.enough in
-      let had = are.found.chains in
+      let headed = are.found.headed in
+      let short = are.found.short in
       record {
         found = subst (λ (e : Eras). AreFound e new_heads new_fs new.slots) (sym eras_same) (record {
           chained = subst (AreChains (own_chain eras) new_heads new_fs) (sym out_numbers) chained;
           known = subst (AreKnown eras) (sym out_numbers) (out_known eras (ids_of old.slots (length fs)) s k there are.found.known);
-          chains = omega arith;
-          newest = are.found.newest;
+          short = omega arith;
+          headed = omega arith;
+          eras_few = are.found.eras_few;
           enough = omega arith;
         });
         sound = out_sound (ids_of old.slots (length fs)) (ids_of new.slots (length new_fs)) old.slots new.slots are.sound k s there out_numbers gone changes.changed changes.others alone long;

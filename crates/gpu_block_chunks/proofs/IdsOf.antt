@@ -1,16 +1,16 @@
 -- The ids of chunks in slots, after one of the slots is written, and in a row of more slots.
 use Rattle.std.proofs.Common.{◌≡◌, ◌≢◌, ℕ, ◌+◌, ◌-◌, ◌^◌, ◌<◌, ◌≤◌, zero, suc, List, [], ◌∷◌, ◌++◌, map, length, get_or, set, replicate}
-use Rattle.std.proofs.Common.{Option, Some, None, IsSome, refl, sym, ap, ◌∙◌, subst, inl, inr, append_assoc, arith}
+use Rattle.std.proofs.Common.{Option, Some, None, IsSome, refl, sym, ap, ◌∙◌, subst, inl, inr, append_assoc, append-nil, pow_mono, arith}
 use Rattle.std.specs.Option.{option_map}
 use Rattle.std.proofs.lemmas.Bool.{cases_eq}
 use Rattle.std.proofs.lemmas.List.{length-append, length-map, length-replicate, length-set, get_or-set_same, get_or-set_other, ext_get_or, replicate-append-replicate}
 use Rattle.gpu_block_chunks.specs.declared.chain.eras.Eras.{Eras}
-use Rattle.gpu_block_chunks.specs.Eras.{own_chain}
+use Rattle.gpu_block_chunks.specs.Eras.{newest, own_chain}
 use Rattle.gpu_block_chunks.specs.declared.chain.link.LinkedChunk.{LinkedChunk}
 use Rattle.gpu_block_chunks.specs.ChunkIds.{id_at, id_of, ids_of, link_at, AreChains, AreKnown, AreFound, IsOf}
 use Rattle.gpu_block_chunks.proofs.IdRows.{led_to}
 use Rattle.gpu_block_chunks.proofs.IdGrowth.{get_more, more_chains, wide_chains}
-use Rattle.gpu_block_chunks.proofs.Eras.{doubled, own_within}
+use Rattle.gpu_block_chunks.proofs.Eras.{own_within}
 
 -- ---- the id in each slot
 map_at : (chunks : List (Option LinkedChunk)) (s : ℕ) → get_or (map id_of chunks) s None ≡ id_of (get_or chunks s None)
@@ -76,38 +76,54 @@ ids_more chunks n m enough more =
     ∙ ap (λ (rest : List (Option ℕ)). map id_of chunks ++ rest) (sym (replicate-append-replicate {A = Option ℕ} (n - length chunks) (m - n) None))
     ∙ sym (append_assoc (map id_of chunks) (replicate (n - length chunks) None) (replicate (m - n) None))
 
-pub more_found : (eras : Eras) (heads fs : List (Option ℕ)) (chunks : List (Option LinkedChunk)) (more : ℕ) → AreFound eras heads fs chunks → length fs + more ≤ length heads → length fs + more < 2 ^ 32
+pub more_found : (eras : Eras) (heads fs : List (Option ℕ)) (chunks : List (Option LinkedChunk)) (more : ℕ) → AreFound eras heads fs chunks → length fs + more ≤ 2 ^ newest eras → length fs + more < 2 ^ 32
     → AreFound eras heads (fs ++ replicate more None) chunks
 more_found eras heads fs chunks more found enough few =
     let whole = length-append fs (replicate more None) in
     let added = length-replicate {A = Option ℕ} more None in
     let had = found.enough in
+    let headed = found.headed in
     let long : length (fs ++ replicate more None) ≡ length fs + more = omega arith in
     let rest : (length fs + more) - length fs ≡ more = omega arith in
     let ids : ids_of chunks (length (fs ++ replicate more None)) ≡ ids_of chunks (length fs) ++ replicate more None =
     ap (ids_of chunks) long ∙ ids_more chunks (length fs) (length fs + more) found.enough (omega arith)
     ∙ ap (λ (m : ℕ). ids_of chunks (length fs) ++ replicate m None) rest in
     record {
-      chained = subst (λ (row : List (Option ℕ)). AreChains (own_chain eras) heads (fs ++ replicate more None) row) (sym ids) (more_chains (own_chain eras) heads fs (ids_of chunks (length fs)) more found.chained enough few);
+      chained = subst (λ (row : List (Option ℕ)). AreChains (own_chain eras) heads (fs ++ replicate more None) row) (sym ids) (more_chains (own_chain eras) heads fs (ids_of chunks (length fs)) more found.chained (omega arith) few);
       known = subst (AreKnown eras) (sym ids) (λ s k at. found.known s k (sym (get_more (ids_of chunks (length fs)) more s) ∙ at));
-      chains = found.chains;
-      newest = found.newest;
+      short = omega arith;
+      headed = found.headed;
+      eras_few = found.eras_few;
       enough = omega arith;
     }
 
--- ---- there are more heads, for ids that are yet to come
-pub wide_found : (eras new : Eras) (heads fs : List (Option ℕ)) (chunks : List (Option LinkedChunk)) → AreFound eras heads fs chunks → eras.newest < 32 → new.newest ≡ eras.newest + 1
-    → new.latest ≡ eras.latest → ((k : ℕ) → k ≤ eras.latest → own_chain new k ≡ own_chain eras k) → AreFound new (heads ++ replicate (length heads) None) fs chunks
-wide_found eras new heads fs chunks found few next same kept =
-    let whole = length-append heads (replicate (length heads) None) in
-    let added = length-replicate {A = Option ℕ} (length heads) None in
-    let had = found.chains in
-    let twice : 2 ^ new.newest ≡ 2 ^ eras.newest + 2 ^ eras.newest = ap (λ (n : ℕ). 2 ^ n) next ∙ doubled eras.newest in
+-- ---- there are more heads, which lead to no slot
+pub wide_found : (eras : Eras) (heads fs : List (Option ℕ)) (chunks : List (Option LinkedChunk)) (more : ℕ) → AreFound eras heads fs chunks → AreFound eras (heads ++ replicate more None) fs chunks
+wide_found eras heads fs chunks more found =
+    let whole = length-append heads (replicate more None) in
+    let added = length-replicate {A = Option ℕ} more None in
+    let had = found.headed in
     record {
-      chained = wide_chains (own_chain eras) (own_chain new) heads fs (ids_of chunks (length fs)) (length heads) found.chained (λ s k at. kept k (found.known s k at))
-          (λ k. let inside = own_within new k in omega arith);
+      chained = wide_chains (own_chain eras) (own_chain eras) heads fs (ids_of chunks (length fs)) more found.chained (λ s k at. refl) (λ k. let inside = own_within eras k in omega arith);
+      known = found.known;
+      short = found.short;
+      headed = omega arith;
+      eras_few = found.eras_few;
+      enough = found.enough;
+    }
+
+-- ---- there are more chains, for ids that are yet to come
+pub later_found : (eras new : Eras) (heads fs : List (Option ℕ)) (chunks : List (Option LinkedChunk)) → AreFound eras heads fs chunks → newest eras ≤ newest new → newest new < 33
+    → 2 ^ newest new ≤ length heads → new.latest ≡ eras.latest → ((k : ℕ) → k ≤ eras.latest → own_chain new k ≡ own_chain eras k) → AreFound new heads fs chunks
+later_found eras new heads fs chunks found later few headed same kept =
+    let had = found.short in
+    let grown : 2 ^ newest eras ≤ 2 ^ newest new = pow_mono later in
+    record {
+      chained = subst (λ (hs : List (Option ℕ)). AreChains (own_chain new) hs fs (ids_of chunks (length fs))) (append-nil heads)
+          (wide_chains (own_chain eras) (own_chain new) heads fs (ids_of chunks (length fs)) 0 found.chained (λ s k at. kept k (found.known s k at)) (λ k. let inside = own_within new k in omega arith));
       known = λ s k at. let less = found.known s k at in omega arith;
-      chains = omega arith;
-      newest = omega arith;
+      short = omega arith;
+      headed = headed;
+      eras_few = few;
       enough = found.enough;
     }

@@ -5,7 +5,7 @@ use Rattle.gpu_block_chunks.specs.declared.chain.link.LinkedChunk.{LinkedChunk}
 use Rattle.gpu_block_chunks.specs.declared.chain.chunk_ids.ChunkIds.{ChunkIds}
 use Rattle.gpu_block_chunks.specs.declared.chain.eras.Eras.{Eras}
 use Rattle.gpu_block_chunks.specs.Chain.{is_at}
-use Rattle.gpu_block_chunks.specs.Eras.{own_chain}
+use Rattle.gpu_block_chunks.specs.Eras.{newest, own_chain}
 
 -- the id in a slot
 abbrev pub id_at : List (Option ℕ) → ℕ → Option ℕ
@@ -69,12 +69,14 @@ pub record AreChains (chain_of : ℕ → ℕ) (heads followers ids : List (Optio
 abbrev pub AreKnown : Eras → List (Option ℕ) → Type 0
 AreKnown eras ids = (slot k : ℕ) → id_at ids slot ≡ Some k → k ≤ eras.latest
 
--- the chunks in slots are found: each id is in the chain that it got when it was new, and each slot can have a follower
+-- the chunks in slots are found: each id is in the chain that it got when it was new, each slot can have a follower, and there are no fewer
+-- chains than slots
 pub record AreFound (eras : Eras) (heads followers : List (Option ℕ)) (chunks : List (Option LinkedChunk)) : Type 0 where
   pub chained : AreChains (own_chain eras) heads followers (ids_of chunks (length followers))
   pub known : AreKnown eras (ids_of chunks (length followers))
-  pub chains : length heads ≡ 2 ^ eras.newest
-  pub newest : eras.newest < 33
+  pub short : length followers ≤ 2 ^ newest eras
+  pub headed : 2 ^ newest eras ≤ length heads
+  pub eras_few : newest eras < 33
   pub enough : length chunks ≤ length followers
 
 -- chunks that were found are found still

@@ -23,9 +23,10 @@ const FEW_DIGITS: u32 = 4;
 /// For how many gaps there is room at most: a slot has a number of 30 bits, and slot 0 has no gap.
 const MOST_GAPS: usize = (1 << 30) - 2;
 
-/// For how many gaps more there is room, once it grows: at least, and at most.
+/// For how many gaps more there is room at least, once it grows.
 const LEAST_GROWTH: usize = 4;
 
+/// And at most: a page of rows.
 const MOST_GROWTH: usize = 256;
 
 /// For how many gaps there is room after it grew. It grows by a sixteenth, so that few places are in vain, and by a page of rows at most, so

@@ -90,7 +90,7 @@ ordered_block cs size g counter are = record {
 }
 
 -- those of a block that is one gap
-fresh_are : (cs : List Chunk) (size counter : ℕ) → 0 < size → 2 ≤ counter → IsFresh cs size → AreChunks cs size counter
+pub fresh_are : (cs : List Chunk) (size counter : ℕ) → 0 < size → 2 ≤ counter → IsFresh cs size → AreChunks cs size counter
 fresh_are cs size counter some two fresh =
     let c : Chunk = record { start = 0; size = size; offset = 0; kind = Free; chunk_id = 1; label = no_label } in
     let is : IsChunk counter c = record { after = omega arith; before = omega arith; positive = omega arith; given = omega arith } in

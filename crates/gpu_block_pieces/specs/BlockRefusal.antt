@@ -28,10 +28,11 @@ abbrev pub release_refusal : Option NonZeroU64 → Refusal
 release_refusal None = internal (codes "Chunk ID must be a valid value.") None
 release_refusal (Some _) = internal (codes "Attempting to free chunk that is not in chunk list.") None
 
--- why no piece of a number is renamed: a gap has it, or nothing has it
+-- why a number that no piece has gets no other name or word: a gap has it, or nothing has it
 abbrev pub no_piece_fault : (is_gap : Bool) → Refusal
 no_piece_fault is_gap = internal (if is_gap then codes "Attempting to rename a freed allocation." else codes "Attempting to rename chunk that is not in chunk list.") None
 
+-- the same in a block
 abbrev pub rename_fault : FreeList → ℕ → Refusal
 rename_fault b n = no_piece_fault (has_gap_chunk_id b n)
 

@@ -254,7 +254,7 @@ impl FreeListAllocator {
     }
 }
 
-/// Why nothing can be said anew of the chunk of a number that is no live piece's.
+/// Why a number that is no live piece's gets no other name or word.
 fn no_piece(chunks: &Chunks, chunk_id: u64, cost: &mut Cost) -> AllocationError
     ensures value { refusal_of result
         ≡ no_piece_fault (list_any (λ c. is_gap_by c.kind chunk_id c) chunks.now.items) }

@@ -14,7 +14,7 @@ module _ {T : Type 0} where
   abbrev pub seen_of : List (Vec T Global) → ℕ → Rows T
   seen_of pages room = record { items = rows_of pages; capacity = room }
 
-  -- pages of `size` rows have so many in all: a page has all the rows that are left, or is full. Each has memory for `held` rows at least
+  -- pages of `size` rows have so many in all: a page has all the rows that are left, or is full, and memory for `held` at least
   abbrev pub ArePages : ℕ → ℕ → List (Vec T Global) → ℕ → Type 0
   ArePages size held [] rows = rows ≡ 0
   ArePages size held (page ∷ pages) rows = (vec_len page ≡ min size rows) × (held ≤ vec_capacity page) × ArePages size held pages (rows - size)

@@ -94,8 +94,8 @@ impl<T> Rows<T> {
         self.pages.allocator()
     }
 
-    /// Makes room for that many more rows: for 16 rows in all, for 64, and then in whole pages. Only the rows of a
-    /// first page that is not whole move. What was taken before a refusal stays.
+    /// Makes room for that many more rows: for 16 rows in all, for 64, and then in whole pages. Only the rows of a first page that is not
+    /// whole move. Refused where the host refuses memory, and above 2^62 rows; what was taken before that stays.
     pub fn reserve(&mut self, more: usize) -> Result<(), AllocError>
         ensures items { self.new.items ≡ self.old.items }
         ensures len { row_count self.new ≡ row_count self.old }
@@ -171,7 +171,7 @@ impl<T> Rows<T> {
         self.len += 1;
     }
 
-    /// Takes the last row out.
+    /// Takes the last row out, if there is one. Its page stays.
     #[inline(always)]
     pub fn pop(&mut self) -> Option<T>
         ensures items { self.old.items ≡ self.new.items ++ option_to_list result }

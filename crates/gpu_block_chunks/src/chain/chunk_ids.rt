@@ -1,9 +1,9 @@
 //! The slot of each chunk id. Ids with the same low bits are a chain from the greatest down, which begins at a head; how many bits that
 //! are was settled when an id was new. The ids themselves are read in the chunks.
 
-ghost use Rattle.std.specs.Prelude.{◌≡◌, ◌≢◌, ◌+◌, ◌^◌, ◌<◌, ◌≤◌, ℕ, [], ◌++◌, Some, None, IsSome, IfSome, IfOk, OnOk, OnErr, MatchOption, length, max, replicate, slice_set};
+ghost use Rattle.std.specs.Prelude.{◌≡◌, ◌≢◌, ◌+◌, ◌*◌, ◌^◌, ◌<◌, ◌≤◌, ℕ, [], ◌++◌, Some, None, IsSome, IfSome, IfOk, OnOk, OnErr, MatchOption, length, max, replicate, slice_set};
 ghost use Rattle.gpu_rows.specs.Rows.{row_count};
-ghost use Rattle.gpu_block_chunks.specs.Eras.{own_chain};
+ghost use Rattle.gpu_block_chunks.specs.Eras.{newest, own_chain};
 ghost use Rattle.gpu_block_chunks.specs.Slots.{chunk_at};
 ghost use Rattle.gpu_block_chunks.specs.ChunkIds.{slot_of, id_at, id_of, ids_of, link_at, AreChains, AreFound, KeepsFound, IsOf, IsPlace, IsAbove, NoneAbove, ChangesLink, PutsBehind};
 
@@ -17,7 +17,8 @@ use std::alloc::{AllocError, Global};
 const MOST: usize = (1 << 32) - 1;
 
 /// The chains of the ids of chunks in slots: the slot to which each head leads, and the one that follows each slot in its chain. The follower
-/// of a slot without a chunk is of no chain. There are no fewer heads than slots, so that chains are short.
+/// of a slot without a chunk is of no chain. There are no fewer chains than slots, so that chains are short, and heads for the next era are
+/// made before it begins, so that no call makes many.
 #[derive(Drop)]
 pub struct ChunkIds {
     heads: Vec<SlotLink>,
@@ -122,12 +123,13 @@ fn add_followers(followers: &mut Rows<SlotLink>, more: usize) -> Result<(), Allo
 impl ChunkIds {
     /// No slots yet, and one chain.
     pub fn new(alloc: Global) -> Result<ChunkIds, AllocError>
-        ensures { IfOk result (λ c. AreFound c.eras c.heads.items c.followers.items []) }
+        ensures found { IfOk result (λ c. AreFound c.eras c.heads.items c.followers.items []) }
+        ensures latest { IfOk result (λ c. c.eras.latest ≡ 0) }
     {
         Ok(ChunkIds {
             heads: vec![in alloc; SlotLink::none(); 1]?,
             followers: Rows::new(alloc),
-            eras: Eras::first(),
+            eras: Eras::first(alloc),
         })
     }
 
@@ -203,8 +205,8 @@ impl ChunkIds {
 
     /// Puts a slot into the chain of its chunk id, behind the slot that is before it.
     pub fn link(&mut self, chunk_id: u64, before: Option<u32>, slot: u32)
-        requires newest { self.old.eras.newest < 33 }
-        requires chains { length self.old.heads.items ≡ 2 ^ self.old.eras.newest }
+        requires newest { newest self.old.eras < 33 }
+        requires chains { 2 ^ newest self.old.eras ≤ length self.old.heads.items }
         requires few { length self.old.followers.items < 2 ^ 32 }
         requires before { IfSome before (λ s. s < length self.old.followers.items) }
         requires other { before ≢ Some slot }
@@ -240,39 +242,52 @@ impl ChunkIds {
         set_follower(&mut self.heads, &mut self.followers, chain, before, next);
     }
 
-    /// Twice as many chains, for ids that are yet to come: no id moves, and the new heads are empty.
-    fn double(&mut self) -> Result<(), AllocError>
-        requires newest { self.old.eras.newest < 32 }
-        requires chains { length self.old.heads.items ≡ 2 ^ self.old.eras.newest }
+    /// Makes so many heads at least, of which the new ones lead to no slot. A refusal changes none.
+    fn add_heads_to(&mut self, count: usize) -> Result<(), AllocError>
+        requires { count < 2 ^ 33 }
         ensures found { KeepsFound self.old self.new }
-        ensures newest { self.new.eras.newest < 33 }
-        ensures chains { length self.new.heads.items ≡ 2 ^ self.new.eras.newest }
-        ensures doubled { OnOk result (length self.old.heads.items < length self.new.heads.items) }
+        ensures enough { OnOk result (count ≤ length self.new.heads.items) }
+        ensures eras { self.new.eras ≡ self.old.eras }
         ensures followers { self.new.followers.items ≡ self.old.followers.items }
     {
-        let more = self.heads.len();
-        add_heads(&mut self.heads, more)?;
-        self.eras.begin();
+        let len = self.heads.len();
+        if count <= len {
+            return Ok(());
+        }
+        // a quarter more, so that they are seldom copied
+        add_heads(&mut self.heads, (count - len).max(len / 4))
+    }
+
+    /// Begins eras until there are so many chains, for ids that are yet to come: no id moves, and their heads are there.
+    fn add_chains_to(&mut self, count: usize) -> Result<(), AllocError>
+        requires heads { 2 * count ≤ length self.old.heads.items }
+        requires few { count < 2 ^ 32 }
+        requires newest { newest self.old.eras < 33 }
+        ensures found { KeepsFound self.old self.new }
+        ensures newest { newest self.new.eras < 33 }
+        ensures enough { OnOk result (count ≤ 2 ^ newest self.new.eras) }
+        ensures followers { self.new.followers.items ≡ self.old.followers.items }
+        ensures latest { self.new.eras.latest ≡ self.old.eras.latest }
+    {
+        while self.eras.chains() < count {
+            self.eras.begin()?;
+        }
         Ok(())
     }
 
     /// Makes so many slots of them at least. A refusal changes no id.
     pub fn reserve_to(&mut self, slots: usize) -> Result<(), AllocError>
-        requires newest { self.old.eras.newest < 33 }
-        requires chains { length self.old.heads.items ≡ 2 ^ self.old.eras.newest }
+        requires newest { newest self.old.eras < 33 }
         ensures found { KeepsFound self.old self.new }
         ensures more { length self.old.followers.items ≤ length self.new.followers.items }
         ensures room { OnOk result (slots ≤ length self.new.followers.items) }
+        ensures latest { self.new.eras.latest ≡ self.old.eras.latest }
     {
         if slots > MOST {
             return Err(AllocError);
         }
-        // memory for all new heads is taken at once
-        self.heads
-            .reserve_exact(slots.next_power_of_two().saturating_sub(self.heads.len()))?;
-        while self.heads.len() < slots {
-            self.double()?;
-        }
+        self.add_heads_to(2 * slots)?;
+        self.add_chains_to(slots)?;
         let more = slots.saturating_sub(self.followers.len());
         add_followers(&mut self.followers, more)
     }

@@ -93,7 +93,7 @@ impl Slots {
         Ok(slots)
     }
 
-    /// For how many more chunks there is room: in the free slots at least.
+    /// For how many more chunks there is room: no fewer than free slots.
     pub fn room(&self) -> usize
         ensures value { result ≡ self.now.room }
         ensures free { length self.now.slots ≤ taken self.now + result }
