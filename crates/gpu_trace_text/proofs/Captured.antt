@@ -1,11 +1,14 @@
 -- What a capture wrote reads back: a line's words are read as they were written, and say one thing.
-use Rattle.std.proofs.Common.{◌≡◌, refl, sym, ap, ◌∙◌, subst, ℕ, ◌<◌, ◌^◌, List, [], ◌∷◌, ◌++◌, Option, arith}
+use Rattle.std.proofs.Common.{◌≡◌, refl, sym, ap, ◌∙◌, subst, Bool, ℕ, ◌<◌, ◌^◌, List, [], ◌∷◌, ◌++◌, Option, arith}
 use Rattle.std.specs.Prelude.{codes, string_bytes}
 use Rattle.std.specs.Fmt.{decimal}
 use Rattle.std.specs.declared.alloc.Global.{Global}
 use Rattle.std.proofs.lemmas.Fmt.{decimal_injective}
 use Rattle.gpu_device.specs.declared.refusal.Refusal.{Refusal}
 use Rattle.gpu_capture.specs.declared.request.VulkanRequest.{VulkanRequest}
+use Rattle.gpu_capture.specs.declared.capture.CaptureEnd.{CaptureEnd}
+use Rattle.gpu_capture.specs.declared.capture.CaptureEnd.TheVariants.{Whole}
+use Rattle.gpu_capture.specs.CaptureState.{last_line}
 use Rattle.gpu_capture.specs.Line.{line_of, name_word}
 use Rattle.gpu_capture.specs.Words.{location_word, refusal_word, budget_word, alloc_words, move_words, rename_words}
 use Rattle.gpu_capture.specs.Vulkan.{linear_word, scheme_word, vulkan_words}
@@ -27,7 +30,7 @@ use Rattle.gpu_trace_text.specs.declared.device.setting.Setting.{Setting}
 use Rattle.gpu_trace_text.specs.declared.device.setting.Setting.TheVariants.{Heap, MemoryType, Granularity, Sizes, Refuse}
 use Rattle.gpu_trace_text.specs.declared.dialect.Line.TheVariants as lines
 use Rattle.gpu_trace_text.proofs.CapturedWords.{clean_text, clean_location, clean_linear, clean_scheme, clean_budget, clean_refusal, location-one, linear-one, scheme-one, is_name, text_of, budget-one, refusal-one, clean_small, other}
-use Rattle.gpu_trace_text.proofs.Reading.{Words, kinds, sets, ends, tells, asks_line, sets_line, new_line, destroy_line}
+use Rattle.gpu_trace_text.proofs.Reading.{Words, kinds, sets, ends, remarks, tells, asks_line, sets_line, new_line, destroy_line, ended_line}
 
 -- ---- words
 
@@ -42,6 +45,10 @@ command_kind c e = cc
 command_ends : (c : Command) → kinds (ask.words c) ≡ ends → ⊥
 command_ends (asked.Alloc key q) e = cc
 command_ends c e = cc
+
+command_remarks : (c : Command) → kinds (ask.words c) ≡ remarks → ⊥
+command_remarks (asked.Alloc key q) e = cc
+command_remarks c e = cc
 
 pub shared_kind : (s : Setting) → kinds (setting.words s) ≡ sets
 shared_kind (Heap size) = refl
@@ -80,6 +87,7 @@ said = record {
   setting_kind = shared_kind;
   command_kind = command_kind;
   command_ends = command_ends;
+  command_remarks = command_remarks;
   other_kind = λ ws c r. ap kinds r.is ∙ block_kind c;
   setting_one = setting_one;
 }
@@ -242,3 +250,6 @@ new_reads rest = new_line said rest
 
 pub destroy_reads : (rest : List ℕ) → BeginsWith Means (λ l. l ≡ lines.Destroy) (line_of destroy_words ++ rest) rest
 destroy_reads rest = destroy_line said rest
+
+pub ended_reads : (e : CaptureEnd) → (e ≡ Whole → ⊥) → (is_destroyed : Bool) → BeginsWith Means (λ l. l ≡ lines.Blank) (last_line e is_destroyed) []
+ended_reads e early is_destroyed = ended_line said e early is_destroyed

@@ -1,5 +1,5 @@
 -- A whole trace that a capture of Vulkan wrote reads back.
-use Rattle.std.proofs.Common.{◌≡◌, refl, sym, ap, ◌∙◌, subst, ℕ, List, [], ◌∷◌, ◌++◌, length, Bool, map, ◌<◌, append-nil, length-append, arith}
+use Rattle.std.proofs.Common.{◌≡◌, ◌≢◌, refl, sym, ap, ◌∙◌, subst, ℕ, List, [], ◌∷◌, ◌++◌, length, Bool, map, ◌<◌, append-nil, length-append, arith}
 use Rattle.std.specs.List.{All, flat_map}
 use Rattle.std.specs.declared.alloc.Global.{Global}
 use Rattle.std.proofs.lemmas.List.Concat.{flat_map-append}
@@ -16,13 +16,13 @@ use Rattle.gpu_capture.specs.Keeps.{Keeps, blank, with_lines}
 use Rattle.gpu_capture.specs.Line.{line_of}
 use Rattle.gpu_capture.specs.Vulkan.{granularity_words}
 use Rattle.gpu_trace_text.specs.Captured.{BeginsWith}
-use Rattle.gpu_trace_text.specs.CapturedTrace.{FitsAnswer, ReadsAs, parts_of}
+use Rattle.gpu_trace_text.specs.CapturedTrace.{Remarks, FitsAnswer, ReadsAs, ReadsUpTo, last_part, parts_of}
 use Rattle.gpu_trace_text.specs.CapturedCalls.{FitsCall, IsCall, refuse_setting, type_setting, device_settings}
 use Rattle.gpu_trace_text.specs.Line.{Means}
 use Rattle.gpu_trace_text.specs.Setting as setting
 use Rattle.gpu_trace_text.specs.declared.device.setting.Setting.TheVariants.{Heap, Granularity, Sizes}
-use Rattle.gpu_trace_text.proofs.CapturedTrace.{Reader, setting_line, whole_trace}
-use Rattle.gpu_trace_text.proofs.Captured.{alloc_reads, move_reads, free_reads, rename_reads, budget_reads, setting_reads, new_reads, destroy_reads}
+use Rattle.gpu_trace_text.proofs.CapturedTrace.{Reader, setting_line, whole_trace, ended_trace}
+use Rattle.gpu_trace_text.proofs.Captured.{alloc_reads, move_reads, free_reads, rename_reads, budget_reads, setting_reads, new_reads, destroy_reads, ended_reads}
 
 call_reads : Global → (c : Call) (rest : List ℕ) → FitsCall c → BeginsWith Means (IsCall c) (call_line c ++ rest) rest
 call_reads g (calls.Allocated number (Vulkan r) answers) rest f = alloc_reads g number r rest f.0 f.1
@@ -58,6 +58,7 @@ reader g = record {
   new_reads = new_reads;
   call_reads = call_reads g;
   destroy_reads = destroy_reads;
+  ended_reads = ended_reads;
 }
 
 -- the lines in front of `new`
@@ -96,10 +97,21 @@ some_lines d sizes =
 pub trace_reads : Global → (device : VulkanDevice) (sizes : BlockSizes) (questions : ℕ) (cs : List Call) (is_destroyed : Bool) (begun done : CaptureState)
     → Keeps blank (with_lines blank (vulkan_lines device sizes) [] questions) begun → Kept cs begun done → done.end ≡ Whole
     → All setting.Fits (device_settings device sizes) → All FitsCall cs
-    → ReadsAs Means IsCall (parts_of refuse_setting (device_settings device sizes) questions cs is_destroyed) (text done is_destroyed)
+    → ReadsAs Means IsCall (parts_of refuse_setting (device_settings device sizes) questions cs (last_part is_destroyed)) (text done is_destroyed)
 trace_reads g device sizes questions cs is_destroyed begun done begins kept whole fit calls_fit =
     let settings = device_settings device sizes in
     let w =
     whole_trace Means IsCall (reader g) [] settings questions cs is_destroyed begun done (subst (λ (ls : List ℕ). Keeps blank (with_lines blank ls [] questions) begun) (lines_are g device sizes) begins) kept whole
     (subst (λ (ls : List ℕ). 0 < length ls) (lines_are g device sizes) (some_lines device sizes)) fit calls_fit in
-    subst (ReadsAs Means IsCall (parts_of refuse_setting settings questions cs is_destroyed)) (sym w.1) w.2
+    subst (ReadsAs Means IsCall (parts_of refuse_setting (device_settings device sizes) questions cs (last_part is_destroyed))) (sym w.1) w.2
+
+pub ended_trace_reads : Global → (device : VulkanDevice) (sizes : BlockSizes) (questions : ℕ) (cs : List Call) (is_destroyed : Bool) (begun done : CaptureState)
+    → Keeps blank (with_lines blank (vulkan_lines device sizes) [] questions) begun → begun.end ≡ Whole → Kept cs begun done → done.end ≢ Whole
+    → All setting.Fits (device_settings device sizes) → All FitsCall cs
+    → ReadsUpTo Means IsCall (λ written. parts_of refuse_setting (device_settings device sizes) questions written (Remarks ∷ [])) cs (text done is_destroyed)
+ended_trace_reads g device sizes questions cs is_destroyed begun done begins was kept early fit calls_fit =
+    let settings = device_settings device sizes in
+    let w =
+    ended_trace Means IsCall (reader g) [] settings questions cs is_destroyed begun done (subst (λ (ls : List ℕ). Keeps blank (with_lines blank ls [] questions) begun) (lines_are g device sizes) begins) was kept early
+    (subst (λ (ls : List ℕ). 0 < length ls) (lines_are g device sizes) (some_lines device sizes)) fit calls_fit in
+    subst (ReadsUpTo Means IsCall (λ written. parts_of refuse_setting (device_settings device sizes) questions written (Remarks ∷ [])) cs) (sym w.1) w.2

@@ -1,6 +1,7 @@
--- A whole trace that a capture wrote reads back, in each sort of traces.
+-- A trace that a capture wrote reads back, in each sort of traces.
 use Rattle.std.proofs.Common.{◌≡◌, refl, sym, ap, ◌∙◌, subst, ℕ, ◌+◌, ◌<◌, ◌^◌, List, [], ◌∷◌, ◌++◌, length, map, append_assoc, append-nil, length-append, Bool, true, false, arith}
 use Rattle.std.specs.List.{flat_map, All}
+use Rattle.std.proofs.lemmas.List.{get_or_append_left}
 use Rattle.std.proofs.lemmas.List.Concat.{flat_map-append}
 use Rattle.std.proofs.lemmas.List.Elements.{All-nil, All-cons, All-head, All-tail, All-append}
 use Rattle.gpu_capture.specs.declared.answer.Answer.{Answer}
@@ -13,9 +14,9 @@ use Rattle.gpu_capture.specs.History.{Call, Kept, RefusedQuestion, call_line, an
 use Rattle.gpu_capture.specs.Keeps.{Keeps, blank, with_lines}
 use Rattle.gpu_capture.specs.Line.{line_of}
 use Rattle.gpu_capture.specs.Words.{refuse_words}
-use Rattle.gpu_capture.proofs.Histories.{history, kept_whole}
+use Rattle.gpu_capture.proofs.Histories.{Tells, history, kept_whole, was_whole}
 use Rattle.gpu_trace_text.specs.Captured.{BeginsWith}
-use Rattle.gpu_trace_text.specs.CapturedTrace.{Part, Sets, Makes, Calls, Ends, last_part, parts_of, FitsAnswer, IsPart, ReadsAs}
+use Rattle.gpu_trace_text.specs.CapturedTrace.{Part, Sets, Makes, Calls, Ends, Remarks, last_part, parts_of, FitsAnswer, IsPart, ReadsAs, ReadsUpTo}
 use Rattle.gpu_trace_text.specs.Dialect.{new_words, destroy_words}
 use Rattle.gpu_trace_text.specs.Setting.{FitsRefusal}
 use Rattle.gpu_trace_text.specs.declared.dialect.Line.{Line}
@@ -25,6 +26,15 @@ use Rattle.gpu_trace_text.specs.declared.dialect.Line.TheVariants as lines
 new_behind : (device : List ℕ) → 0 < length device → new_line device ≡ line_of new_words
 new_behind [] some = absurd (omega arith)
 new_behind (b ∷ bs) some = refl
+
+-- a list that isn't empty has a first
+one_behind : {A : Type 0} (xs : List A) → (xs ≡ [] → ⊥) → (x : A) × (rest : List A) × (xs ≡ x ∷ rest)
+one_behind [] some = absurd (some refl)
+one_behind (x ∷ rest) some = (x, rest, refl)
+
+-- what holds of all holds of those in front
+front_all : {A : Type 0} (P : A → Type 0) (xs ys : List A) → All P (xs ++ ys) → All P xs
+front_all P xs ys h k d lt = subst P (get_or_append_left xs ys d k lt) (h k d (omega (arith, lt, length-append xs ys)))
 
 -- what a sort of traces reads
 pub record Reader {S C O : Type 0} (Means : List ℕ → Line S C O → Type 0) (IsCall : Call → Line S C O → Type 0) : Type 1 where
@@ -39,6 +49,7 @@ pub record Reader {S C O : Type 0} (Means : List ℕ → Line S C O → Type 0) 
   pub new_reads : (rest : List ℕ) → BeginsWith Means (λ l. l ≡ lines.New) (line_of new_words ++ rest) rest
   pub call_reads : (c : Call) (rest : List ℕ) → FitsCall c → BeginsWith Means (IsCall c) (call_line c ++ rest) rest
   pub destroy_reads : (rest : List ℕ) → BeginsWith Means (λ l. l ≡ lines.Destroy) (line_of destroy_words ++ rest) rest
+  pub ended_reads : (e : CaptureEnd) → (e ≡ Whole → ⊥) → (is_destroyed : Bool) → BeginsWith Means (λ l. l ≡ lines.Blank) (last_line e is_destroyed) []
 
 module _ {S C O : Type 0} (Means : List ℕ → Line S C O → Type 0) (IsCall : Call → Line S C O → Type 0) (r : Reader Means IsCall) where
   abbrev pub setting_line : S → List ℕ
@@ -46,19 +57,22 @@ module _ {S C O : Type 0} (Means : List ℕ → Line S C O → Type 0) (IsCall :
 
   -- ---- line after line
 
-  end_reads : (is_destroyed : Bool) → ReadsAs Means IsCall (last_part is_destroyed) (last_line Whole is_destroyed)
-  end_reads false = refl
-  end_reads true = ([], subst (λ (t : List ℕ). BeginsWith Means (IsPart Means IsCall Ends) t []) (append-nil (line_of destroy_words)) (r.destroy_reads []), refl)
+  whole_ends : (is_destroyed : Bool) → ReadsAs Means IsCall (last_part is_destroyed) (last_line Whole is_destroyed)
+  whole_ends false = refl
+  whole_ends true = ([], subst (λ (t : List ℕ). BeginsWith Means (IsPart Means IsCall Ends) t []) (append-nil (line_of destroy_words)) (r.destroy_reads []), refl)
 
-  calls_read : (cs : List Call) (is_destroyed : Bool) → All r.FitsCall cs
-      → ReadsAs Means IsCall (map Calls cs ++ last_part is_destroyed) (flat_map call_line cs ++ last_line Whole is_destroyed)
-  calls_read [] is_destroyed f = end_reads is_destroyed
-  calls_read (c ∷ cs) is_destroyed f =
-      let rest = flat_map call_line cs ++ last_line Whole is_destroyed in (
+  early_ends : (e : CaptureEnd) → (e ≡ Whole → ⊥) → (is_destroyed : Bool) → ReadsAs Means IsCall (Remarks ∷ []) (last_line e is_destroyed)
+  early_ends e early is_destroyed = ([], r.ended_reads e early is_destroyed, refl)
+
+  calls_read : (cs : List Call) (last : List (Part S)) (end : List ℕ) → All r.FitsCall cs → ReadsAs Means IsCall last end
+      → ReadsAs Means IsCall (map Calls cs ++ last) (flat_map call_line cs ++ end)
+  calls_read [] last end f reads = reads
+  calls_read (c ∷ cs) last end f reads =
+      let rest = flat_map call_line cs ++ end in (
         rest,
-        subst (λ (t : List ℕ). BeginsWith Means (IsPart Means IsCall (Calls c)) t rest) (sym (append_assoc (call_line c) (flat_map call_line cs) (last_line Whole is_destroyed)))
+        subst (λ (t : List ℕ). BeginsWith Means (IsPart Means IsCall (Calls c)) t rest) (sym (append_assoc (call_line c) (flat_map call_line cs) end))
             (r.call_reads c rest (All-head r.FitsCall c cs f)),
-        calls_read cs is_destroyed (All-tail r.FitsCall c cs f),
+        calls_read cs last end (All-tail r.FitsCall c cs f) reads,
       )
 
   settings_read : (ss : List S) (ps : List (Part S)) (rest : List ℕ) → All r.FitsSetting ss → ReadsAs Means IsCall ps rest
@@ -99,20 +113,20 @@ module _ {S C O : Type 0} (Means : List ℕ → Line S C O → Type 0) (IsCall :
 
   -- ---- the whole
 
-  -- what a capture wrote behind the first lines of its device is read as its settings and its calls
-  pub whole_trace : (first : List ℕ) (settings : List S) (questions : ℕ) (cs : List Call) (is_destroyed : Bool) (begun done : CaptureState)
-      → Keeps blank (with_lines blank (first ++ flat_map setting_line settings) [] questions) begun → Kept cs begun done → done.end ≡ Whole
-      → 0 < length (first ++ flat_map setting_line settings) → All r.FitsSetting settings → All r.FitsCall cs
-      → (rest : List ℕ) × (text done is_destroyed ≡ first ++ rest) × ReadsAs Means IsCall (parts_of r.refuse settings questions cs is_destroyed) rest
-  whole_trace first settings questions cs is_destroyed begun done begins kept whole some fit calls_fit =
-      let told = history cs begun done kept whole in
-      let start = kept_whole blank (with_lines blank (first ++ flat_map setting_line settings) [] questions) begun begins told.was in
-      let answers = flat_map answers_of cs in
+  -- what a capture wrote behind the first lines of its device is read as its settings and the calls that it has
+  told_trace : (first : List ℕ) (settings : List S) (questions : ℕ) (cs : List Call) (is_destroyed : Bool) (begun done : CaptureState) (last : List (Part S))
+      → Keeps blank (with_lines blank (first ++ flat_map setting_line settings) [] questions) begun → begun.end ≡ Whole → (told : Tells cs begun done)
+      → 0 < length (first ++ flat_map setting_line settings) → All r.FitsSetting settings → All r.FitsCall told.calls
+      → ReadsAs Means IsCall last (last_line done.end is_destroyed)
+      → (rest : List ℕ) × (text done is_destroyed ≡ first ++ rest) × ReadsAs Means IsCall (parts_of r.refuse settings questions told.calls last) rest
+  told_trace first settings questions cs is_destroyed begun done last begins was told some fit calls_fit last_reads =
+      let start = kept_whole blank (with_lines blank (first ++ flat_map setting_line settings) [] questions) begun begins was in
+      let answers = flat_map answers_of told.calls in
       let asked : begun.questions ≡ questions = ap (λ (s : CaptureState). s.questions) start.2 ∙ omega arith in
       let room = told.room (subst HasRoom (sym start.2) start.1) in
       let few : questions + length answers < 2 ^ 64 = omega (arith, room.count, told.adds.questions_are, asked) in
       let refused = refusals questions answers in
-      let refused_fit = refusals_fit questions answers (answers_all_fit cs calls_fit) few in
+      let refused_fit = refusals_fit questions answers (answers_all_fit told.calls calls_fit) few in
       let all = settings ++ refused in
       let device : done.device ≡ first ++ flat_map setting_line all =
       told.adds.device_is
@@ -121,7 +135,8 @@ module _ {S C O : Type 0} (Means : List ℕ → Line S C O → Type 0) (IsCall :
       ∙ ap (λ (d : List ℕ). (first ++ flat_map setting_line settings) ++ d) (refusals_written questions answers)
       ∙ append_assoc first (flat_map setting_line settings) (flat_map setting_line refused)
       ∙ ap (λ (d : List ℕ). first ++ d) (sym (flat_map-append setting_line settings refused)) in
-      let calls : done.calls ≡ flat_map call_line cs = told.adds.calls_are ∙ ap (λ (d : List ℕ). d ++ flat_map call_line cs) (ap (λ (s : CaptureState). s.calls) start.2) in
+      let calls : done.calls ≡ flat_map call_line told.calls =
+      told.adds.calls_are ∙ ap (λ (d : List ℕ). d ++ flat_map call_line told.calls) (ap (λ (s : CaptureState). s.calls) start.2) in
       let long : 0 < length done.device =
       omega (
         arith,
@@ -132,15 +147,53 @@ module _ {S C O : Type 0} (Means : List ℕ → Line S C O → Type 0) (IsCall :
         ap length (flat_map-append setting_line settings refused),
         length-append (flat_map setting_line settings) (flat_map setting_line refused),
       ) in
-      let end = last_line Whole is_destroyed in
-      let last = flat_map call_line cs ++ end in
-      let rest = flat_map setting_line all ++ (line_of new_words ++ last) in (
+      let end = last_line done.end is_destroyed in
+      let behind = flat_map call_line told.calls ++ end in
+      let rest = flat_map setting_line all ++ (line_of new_words ++ behind) in (
         rest,
-        ap (λ (e : CaptureEnd). done.device ++ (new_line done.device ++ (done.calls ++ last_line e is_destroyed))) whole
-            ∙ ap (λ (n : List ℕ). done.device ++ (n ++ (done.calls ++ end))) (new_behind done.device long)
+        ap (λ (n : List ℕ). done.device ++ (n ++ (done.calls ++ end))) (new_behind done.device long)
             ∙ ap (λ (d : List ℕ). done.device ++ (line_of new_words ++ (d ++ end))) calls
-            ∙ ap (λ (d : List ℕ). d ++ (line_of new_words ++ last)) device
-            ∙ append_assoc first (flat_map setting_line all) (line_of new_words ++ last),
-        settings_read all (Makes ∷ (map Calls cs ++ last_part is_destroyed)) (line_of new_words ++ last) (All-append r.FitsSetting settings refused fit refused_fit)
-            (last, r.new_reads last, calls_read cs is_destroyed calls_fit),
+            ∙ ap (λ (d : List ℕ). d ++ (line_of new_words ++ behind)) device
+            ∙ append_assoc first (flat_map setting_line all) (line_of new_words ++ behind),
+        settings_read all (Makes ∷ (map Calls told.calls ++ last)) (line_of new_words ++ behind) (All-append r.FitsSetting settings refused fit refused_fit)
+            (behind, r.new_reads behind, calls_read told.calls last end calls_fit last_reads),
+      )
+
+  -- that of a whole capture has all calls
+  pub whole_trace : (first : List ℕ) (settings : List S) (questions : ℕ) (cs : List Call) (is_destroyed : Bool) (begun done : CaptureState)
+      → Keeps blank (with_lines blank (first ++ flat_map setting_line settings) [] questions) begun → Kept cs begun done → done.end ≡ Whole
+      → 0 < length (first ++ flat_map setting_line settings) → All r.FitsSetting settings → All r.FitsCall cs
+      → (rest : List ℕ) × (text done is_destroyed ≡ first ++ rest) × ReadsAs Means IsCall (parts_of r.refuse settings questions cs (last_part is_destroyed)) rest
+  whole_trace first settings questions cs is_destroyed begun done begins kept whole some fit calls_fit =
+      let was = was_whole cs begun done kept whole in
+      let told = history cs begun done kept was in
+      let all : told.calls ≡ cs = sym (told.split ∙ ap (λ (xs : List Call). told.calls ++ xs) (told.whole.0 whole) ∙ append-nil told.calls) in
+      let w =
+      told_trace first settings questions cs is_destroyed begun done (last_part is_destroyed) begins was told some fit (subst (All r.FitsCall) (sym all) calls_fit)
+      (subst (λ (e : CaptureEnd). ReadsAs Means IsCall (last_part is_destroyed) (last_line e is_destroyed)) (sym whole) (whole_ends is_destroyed)) in (
+        w.0,
+        w.1,
+        subst (λ (xs : List Call). ReadsAs Means IsCall (parts_of r.refuse settings questions xs (last_part is_destroyed)) w.0) all w.2,
+      )
+
+  -- that of a capture which ended early has the calls up to its end
+  pub ended_trace : (first : List ℕ) (settings : List S) (questions : ℕ) (cs : List Call) (is_destroyed : Bool) (begun done : CaptureState)
+      → Keeps blank (with_lines blank (first ++ flat_map setting_line settings) [] questions) begun → begun.end ≡ Whole → Kept cs begun done → (done.end ≡ Whole → ⊥)
+      → 0 < length (first ++ flat_map setting_line settings) → All r.FitsSetting settings → All r.FitsCall cs
+      → (rest : List ℕ) × (text done is_destroyed ≡ first ++ rest) × ReadsUpTo Means IsCall (λ written. parts_of r.refuse settings questions written (Remarks ∷ [])) cs rest
+  ended_trace first settings questions cs is_destroyed begun done begins was kept early some fit calls_fit =
+      let told = history cs begun done kept was in
+      let w =
+      told_trace first settings questions cs is_destroyed begun done (Remarks ∷ []) begins was told some fit
+      (front_all r.FitsCall told.calls told.left (subst (All r.FitsCall) told.split calls_fit)) (early_ends done.end early is_destroyed) in
+      let behind = one_behind told.left (λ none. early (told.whole.1 none)) in (
+        w.0,
+        w.1,
+        record {
+          written = told.calls;
+          next = behind.0;
+          left = behind.1;
+          split = told.split ∙ ap (λ (xs : List Call). told.calls ++ xs) behind.2;
+          reads = w.2;
+        },
       )

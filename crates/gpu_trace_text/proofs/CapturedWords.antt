@@ -22,7 +22,7 @@ use Rattle.gpu_device.specs.declared.vulkan.types.AllocationScheme.TheVariants.{
 use Rattle.gpu_capture.specs.Line.{name_word}
 use Rattle.gpu_capture.specs.Words.{location_word, refusal_word, budget_word}
 use Rattle.gpu_capture.specs.Vulkan.{linear_word, scheme_word}
-use Rattle.gpu_capture.proofs.Lines.{IsClean, clean_decimal, clean_signed, clean_name, name_some, name_short}
+use Rattle.gpu_capture.proofs.Lines.{IsClean, AreClean, clean_decimal, clean_signed, clean_name, name_some, name_short}
 use Rattle.gpu_block_session.specs.Words.{IsName}
 use Rattle.gpu_block_session.proofs.Canonical.{differ, mag_below}
 use Rattle.gpu_block_session.proofs.Numbers.{front}
@@ -43,6 +43,19 @@ clean_parts b t e = (grind (arith, nat_tests), grind (arith, nat_tests))
 pub clean_text : (bs : List ℕ) → all_clean bs ≡ true → IsClean bs
 clean_text [] e = All-nil (IsInRange 33 126)
 clean_text (b ∷ bs) e = let p = clean_parts b (all_clean bs) e in All-cons (IsInRange 33 126) b bs p.0 (clean_text bs p.1)
+
+-- a test of literal words
+abbrev pub words_clean : List (List ℕ) → Bool
+words_clean [] = true
+words_clean (w ∷ ws) = if all_clean w then words_clean ws else false
+
+both_clean : (a b : Bool) → (if a then b else false) ≡ true → (a ≡ true) × (b ≡ true)
+both_clean true b e = (refl, e)
+both_clean false b e = cc
+
+pub clean_words : (ws : List (List ℕ)) → words_clean ws ≡ true → AreClean ws
+clean_words [] e = tt
+clean_words (w ∷ ws) e = let p = both_clean (all_clean w) (words_clean ws) e in (clean_text w p.0, clean_words ws p.1)
 
 pub clean_location : (l : MemoryLocation) → IsClean (location_word l)
 clean_location Unknown = clean_text (codes "Unknown") refl

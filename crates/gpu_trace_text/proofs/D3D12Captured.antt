@@ -1,10 +1,13 @@
 -- What a capture wrote of DirectX 12 reads back.
-use Rattle.std.proofs.Common.{◌≡◌, refl, sym, ap, ◌∙◌, subst, false, ℕ, ◌<◌, ◌^◌, List, [], ◌∷◌, ◌++◌, Option, arith}
+use Rattle.std.proofs.Common.{◌≡◌, refl, sym, ap, ◌∙◌, subst, Bool, false, ℕ, ◌<◌, ◌^◌, List, [], ◌∷◌, ◌++◌, Option, arith}
 use Rattle.std.specs.Prelude.{codes, string_bytes, Result, Ok, Err, ℤ}
 use Rattle.std.specs.Fmt.{decimal, signed_decimal}
 use Rattle.std.specs.declared.alloc.Global.{Global}
 use Rattle.std.proofs.lemmas.Fmt.{decimal_injective, signed_decimal_injective}
 use Rattle.gpu_capture.specs.declared.request.D3D12Request.{D3D12Request}
+use Rattle.gpu_capture.specs.declared.capture.CaptureEnd.{CaptureEnd}
+use Rattle.gpu_capture.specs.declared.capture.CaptureEnd.TheVariants.{Whole}
+use Rattle.gpu_capture.specs.CaptureState.{last_line}
 use Rattle.gpu_capture.specs.D3D12 as captured
 use Rattle.gpu_capture.specs.D3D12.{d3d12_words}
 use Rattle.gpu_capture.specs.Line.{line_of, name_word}
@@ -30,7 +33,7 @@ use Rattle.gpu_trace_text.specs.declared.d3d12.setting.Setting.TheVariants as se
 use Rattle.gpu_trace_text.specs.declared.dialect.Line.TheVariants as lines
 use Rattle.gpu_trace_text.proofs.CapturedWords.{clean_text, clean_location, clean_budget, location-one, budget-one, is_name, text_of, other, clean_refusal}
 use Rattle.gpu_trace_text.proofs.Captured.{setting_one, shared_kind}
-use Rattle.gpu_trace_text.proofs.Reading.{Words, kinds, sets, ends, tells, asks_line, sets_line, new_line, destroy_line}
+use Rattle.gpu_trace_text.proofs.Reading.{Words, kinds, sets, ends, remarks, tells, asks_line, sets_line, new_line, destroy_line, ended_line}
 use Rattle.gpu_device.specs.declared.d3d12.types.ResourceHeapTier.TheVariants.{Tier1, Tier2}
 use Rattle.gpu_trace_text.specs.declared.d3d12.setting.Version as versions_of
 use Rattle.gpu_trace_text.specs.declared.d3d12.setting.Version.TheVariants as versions
@@ -51,6 +54,10 @@ command_kind c e = cc
 pub command_ends : (c : Command) → kinds (command.words c) ≡ ends → ⊥
 command_ends (asked.Alloc key q) e = cc
 command_ends c e = cc
+
+pub command_remarks : (c : Command) → kinds (command.words c) ≡ remarks → ⊥
+command_remarks (asked.Alloc key q) e = cc
+command_remarks c e = cc
 
 pub setting_kind : (s : Setting) → kinds (setting.words s) ≡ sets
 setting_kind (settings.Tier tier) = refl
@@ -95,6 +102,7 @@ said = record {
   setting_kind = setting_kind;
   command_kind = command_kind;
   command_ends = command_ends;
+  command_remarks = command_remarks;
   other_kind = λ ws l r. ap kinds r ∙ look_kind l;
   setting_one = own_setting_one;
 }
@@ -263,3 +271,6 @@ new_reads rest = new_line said rest
 
 pub destroy_reads : (rest : List ℕ) → BeginsWith Means (λ l. l ≡ lines.Destroy) (line_of destroy_words ++ rest) rest
 destroy_reads rest = destroy_line said rest
+
+pub ended_reads : (e : CaptureEnd) → (e ≡ Whole → ⊥) → (is_destroyed : Bool) → BeginsWith Means (λ l. l ≡ lines.Blank) (last_line e is_destroyed) []
+ended_reads e early is_destroyed = ended_line said e early is_destroyed

@@ -1,5 +1,5 @@
 -- A whole trace that a capture of Metal wrote reads back.
-use Rattle.std.proofs.Common.{◌≡◌, refl, sym, ap, ◌∙◌, subst, ℕ, List, [], ◌∷◌, ◌++◌, length, Bool, append-nil, length-append, arith}
+use Rattle.std.proofs.Common.{◌≡◌, ◌≢◌, refl, sym, ap, ◌∙◌, subst, ℕ, List, [], ◌∷◌, ◌++◌, length, Bool, append-nil, length-append, arith}
 use Rattle.std.specs.Prelude.{codes}
 use Rattle.std.specs.List.{All, flat_map}
 use Rattle.std.specs.declared.alloc.Global.{Global}
@@ -18,13 +18,13 @@ use Rattle.gpu_capture.proofs.Lines.{lines-first}
 use Rattle.gpu_block_session.specs.Run.{lines_of}
 use Rattle.gpu_trace_text.specs.Any.{metal_line}
 use Rattle.gpu_trace_text.specs.Captured.{BeginsWith}
-use Rattle.gpu_trace_text.specs.CapturedTrace.{FitsAnswer, IsOfSort, parts_of}
+use Rattle.gpu_trace_text.specs.CapturedTrace.{Remarks, FitsAnswer, IsOfSort, ReadsAs, ReadsUpTo, last_part, parts_of}
 use Rattle.gpu_trace_text.specs.MetalCalls.{FitsCall, IsCall, refuse_setting, device_settings}
 use Rattle.gpu_trace_text.specs.MetalLine.{Means}
 use Rattle.gpu_trace_text.specs.MetalSetting as setting
-use Rattle.gpu_trace_text.proofs.CapturedTrace.{Reader, setting_line, whole_trace}
+use Rattle.gpu_trace_text.proofs.CapturedTrace.{Reader, setting_line, whole_trace, ended_trace}
 use Rattle.gpu_trace_text.proofs.CapturedWords.{clean_text}
-use Rattle.gpu_trace_text.proofs.MetalCaptured.{alloc_reads, move_reads, free_reads, budget_reads, commit_reads, setting_reads, new_reads, destroy_reads}
+use Rattle.gpu_trace_text.proofs.MetalCaptured.{alloc_reads, move_reads, free_reads, budget_reads, commit_reads, setting_reads, new_reads, destroy_reads, ended_reads}
 
 call_reads : Global → (c : Call) (rest : List ℕ) → FitsCall c → BeginsWith Means (IsCall c) (call_line c ++ rest) rest
 call_reads g (calls.Allocated number (Metal r) answers) rest f = alloc_reads g number r rest f.0 f.1
@@ -60,6 +60,7 @@ reader g = record {
   new_reads = new_reads;
   call_reads = call_reads g;
   destroy_reads = destroy_reads;
+  ended_reads = ended_reads;
 }
 
 -- the lines in front of `new`
@@ -69,12 +70,27 @@ lines_are g has_set sizes = ap (λ (t : List ℕ). line_of (codes "metal" ∷ []
 pub trace_reads : Global → (has_set : Bool) (sizes : BlockSizes) (questions : ℕ) (cs : List Call) (is_destroyed : Bool) (begun done : CaptureState)
     → Keeps blank (with_lines blank (metal_lines has_set sizes) [] questions) begun → Kept cs begun done → done.end ≡ Whole
     → All setting.Fits (device_settings has_set sizes) → All FitsCall cs
-    → IsOfSort Means IsCall metal_line (parts_of refuse_setting (device_settings has_set sizes) questions cs is_destroyed) (text done is_destroyed)
+    → IsOfSort metal_line (ReadsAs Means IsCall (parts_of refuse_setting (device_settings has_set sizes) questions cs (last_part is_destroyed))) (text done is_destroyed)
 trace_reads g has_set sizes questions cs is_destroyed begun done begins kept whole fit calls_fit =
     let settings = device_settings has_set sizes in
     let first = line_of (codes "metal" ∷ []) in
     let w =
     whole_trace Means IsCall (reader g) first settings questions cs is_destroyed begun done (subst (λ (ls : List ℕ). Keeps blank (with_lines blank ls [] questions) begun) (lines_are g has_set sizes) begins) kept whole
+    (omega (arith, length-append first (flat_map (setting_line Means IsCall (reader g)) settings))) fit calls_fit in record {
+      rest = w.0;
+      split = ap lines_of w.1 ∙ lines-first (codes "metal" ∷ []) w.0 (clean_text (codes "metal") refl, tt);
+      reads = w.2;
+    }
+
+pub ended_trace_reads : Global → (has_set : Bool) (sizes : BlockSizes) (questions : ℕ) (cs : List Call) (is_destroyed : Bool) (begun done : CaptureState)
+    → Keeps blank (with_lines blank (metal_lines has_set sizes) [] questions) begun → begun.end ≡ Whole → Kept cs begun done → done.end ≢ Whole
+    → All setting.Fits (device_settings has_set sizes) → All FitsCall cs
+    → IsOfSort metal_line (ReadsUpTo Means IsCall (λ written. parts_of refuse_setting (device_settings has_set sizes) questions written (Remarks ∷ [])) cs) (text done is_destroyed)
+ended_trace_reads g has_set sizes questions cs is_destroyed begun done begins was kept early fit calls_fit =
+    let settings = device_settings has_set sizes in
+    let first = line_of (codes "metal" ∷ []) in
+    let w =
+    ended_trace Means IsCall (reader g) first settings questions cs is_destroyed begun done (subst (λ (ls : List ℕ). Keeps blank (with_lines blank ls [] questions) begun) (lines_are g has_set sizes) begins) was kept early
     (omega (arith, length-append first (flat_map (setting_line Means IsCall (reader g)) settings))) fit calls_fit in record {
       rest = w.0;
       split = ap lines_of w.1 ∙ lines-first (codes "metal" ∷ []) w.0 (clean_text (codes "metal") refl, tt);

@@ -5,6 +5,9 @@ use Rattle.std.specs.Fmt.{decimal}
 use Rattle.std.specs.declared.alloc.Global.{Global}
 use Rattle.std.proofs.lemmas.Fmt.{decimal_injective}
 use Rattle.gpu_capture.specs.declared.request.MetalRequest.{MetalRequest}
+use Rattle.gpu_capture.specs.declared.capture.CaptureEnd.{CaptureEnd}
+use Rattle.gpu_capture.specs.declared.capture.CaptureEnd.TheVariants.{Whole}
+use Rattle.gpu_capture.specs.CaptureState.{last_line}
 use Rattle.gpu_capture.specs.Metal.{metal_words}
 use Rattle.gpu_capture.specs.Line.{line_of, name_word}
 use Rattle.gpu_capture.specs.Words.{location_word, refusal_word, budget_word, alloc_words, move_words}
@@ -27,7 +30,7 @@ use Rattle.gpu_trace_text.specs.declared.metal.setting.Setting.TheVariants as se
 use Rattle.gpu_trace_text.specs.declared.dialect.Line.TheVariants as lines
 use Rattle.gpu_trace_text.proofs.CapturedWords.{clean_text, clean_location, clean_budget, location-one, budget-one, is_name, text_of, other, clean_refusal}
 use Rattle.gpu_trace_text.proofs.Captured.{setting_one, shared_kind}
-use Rattle.gpu_trace_text.proofs.Reading.{Words, kinds, sets, ends, tells, asks_line, sets_line, new_line, destroy_line}
+use Rattle.gpu_trace_text.proofs.Reading.{Words, kinds, sets, ends, remarks, tells, asks_line, sets_line, new_line, destroy_line, ended_line}
 use Rattle.gpu_trace_text.specs.declared.metal.line.Look.{Look}
 use Rattle.gpu_trace_text.specs.declared.metal.line.Look.TheVariants.{Members}
 use Rattle.gpu_capture.specs.Metal.{yes_word}
@@ -42,6 +45,10 @@ command_kind c e = cc
 command_ends : (c : Command) → kinds (command.words c) ≡ ends → ⊥
 command_ends (asked.Alloc key q) e = cc
 command_ends c e = cc
+
+command_remarks : (c : Command) → kinds (command.words c) ≡ remarks → ⊥
+command_remarks (asked.Alloc key q) e = cc
+command_remarks c e = cc
 
 setting_kind : (s : Setting) → kinds (setting.words s) ≡ sets
 setting_kind (settings.Sets b) = refl
@@ -77,6 +84,7 @@ said = record {
   setting_kind = setting_kind;
   command_kind = command_kind;
   command_ends = command_ends;
+  command_remarks = command_remarks;
   other_kind = λ ws l r. ap kinds r ∙ look_kind l;
   setting_one = own_setting_one;
 }
@@ -205,3 +213,6 @@ new_reads rest = new_line said rest
 
 pub destroy_reads : (rest : List ℕ) → BeginsWith Means (λ l. l ≡ lines.Destroy) (line_of destroy_words ++ rest) rest
 destroy_reads rest = destroy_line said rest
+
+pub ended_reads : (e : CaptureEnd) → (e ≡ Whole → ⊥) → (is_destroyed : Bool) → BeginsWith Means (λ l. l ≡ lines.Blank) (last_line e is_destroyed) []
+ended_reads e early is_destroyed = ended_line said e early is_destroyed

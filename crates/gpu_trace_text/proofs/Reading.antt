@@ -1,10 +1,14 @@
 -- A line of words that a capture wrote is read as those words alone, in each sort of traces.
-use Rattle.std.proofs.Common.{◌≡◌, refl, sym, ap, ◌∙◌, subst, Bool, true, false, ℕ, List, [], ◌∷◌, ◌++◌, arith}
+use Rattle.std.proofs.Common.{◌≡◌, refl, sym, ap, ◌∙◌, subst, Bool, true, false, ℕ, List, [], ◌∷◌, ◌++◌, append-nil, arith}
 use Rattle.std.specs.Prelude.{codes}
 use Rattle.std.specs.Str.{IsAscii, bytes_eq}
+use Rattle.gpu_capture.specs.declared.capture.CaptureEnd.{CaptureEnd}
+use Rattle.gpu_capture.specs.declared.capture.CaptureEnd.TheVariants.{Whole, TooLong, HostOutOfMemory}
+use Rattle.gpu_capture.specs.CaptureState.{last_line}
 use Rattle.gpu_capture.specs.Line.{line_of}
 use Rattle.gpu_capture.proofs.Lines.{AreClean, joined, joined-printed, lines-first, words-joined}
-use Rattle.gpu_block_session.specs.Line.{IsRemark}
+use Rattle.gpu_block_session.specs.Line.{IsBlank, IsRemark}
+use Rattle.gpu_block_session.specs.Run.{lines_of}
 use Rattle.gpu_block_session.specs.Words.{words_of}
 use Rattle.gpu_trace_text.specs.Captured.{BeginsWith}
 use Rattle.gpu_trace_text.specs.Dialect as dialect
@@ -12,13 +16,15 @@ use Rattle.gpu_trace_text.specs.Dialect.{new_words, destroy_words}
 use Rattle.gpu_trace_text.specs.Spelled.{Spells}
 use Rattle.gpu_trace_text.specs.declared.dialect.Line.{Line}
 use Rattle.gpu_trace_text.specs.declared.dialect.Line.TheVariants as lines
-use Rattle.gpu_trace_text.proofs.CapturedWords.{ascii, clean_text, other}
+use Rattle.gpu_trace_text.proofs.CapturedWords.{ascii, clean_text, clean_words, other}
 
--- what a line's first word tells: that a capture's command begins, or a setting, that configuration or trace end, or none of these
+-- what a line's first word tells: that a capture's command begins, or a setting, that configuration or trace end, that it is a remark, or none of
+-- these
 pub data Kind : Type 0 where
   asks : Kind
   sets : Kind
   ends : Kind
+  remarks : Kind
   tells : Kind
 
 abbrev pub choose : Bool → Kind → Kind → Kind
@@ -45,11 +51,21 @@ kind_of w =
     (choose (bytes_eq w (codes "release")) asks
     (choose (bytes_eq w (codes "create")) asks
     (choose (bytes_eq w (codes "new")) ends
-    (choose (bytes_eq w (codes "destroy")) ends tells))))))))))))))))))
+    (choose (bytes_eq w (codes "destroy")) ends
+    (choose (bytes_eq w (codes "#")) remarks tells)))))))))))))))))))
 
 abbrev pub kinds : List (List ℕ) → Kind
 kinds [] = tells
 kinds (w ∷ ws) = kind_of w
+
+-- the words behind `#` of what ends a capture early
+abbrev too_long : List (List ℕ)
+too_long =
+    codes "the" ∷ codes "capture" ∷ codes "ends" ∷ codes "here:" ∷ codes "the" ∷ codes "next" ∷ codes "call" ∷ codes "would" ∷ codes "make" ∷ codes "the" ∷ codes "trace" ∷ codes "too"
+    ∷ codes "long" ∷ []
+
+abbrev no_memory : List (List ℕ)
+no_memory = codes "the" ∷ codes "capture" ∷ codes "ends" ∷ codes "here:" ∷ codes "no" ∷ codes "host" ∷ codes "memory" ∷ codes "for" ∷ codes "the" ∷ codes "next" ∷ codes "call" ∷ []
 
 -- the words of one sort of traces
 pub record Words (S C O : Type 0) : Type 1 where
@@ -61,6 +77,7 @@ pub record Words (S C O : Type 0) : Type 1 where
   pub setting_kind : (s : S) → kinds (setting s) ≡ sets
   pub command_kind : (c : C) → kinds (command c) ≡ sets → ⊥
   pub command_ends : (c : C) → kinds (command c) ≡ ends → ⊥
+  pub command_remarks : (c : C) → kinds (command c) ≡ remarks → ⊥
   pub other_kind : (ws : List (List ℕ)) (o : O) → IsOther ws o → kinds ws ≡ tells
   pub setting_one : (s t : S) → FitsSetting s → FitsSetting t → setting s ≡ setting t → t ≡ s
 
@@ -141,3 +158,32 @@ module _ {S C O : Type 0} (w : Words S C O) where
   -- the last line
   pub destroy_line : (rest : List ℕ) → BeginsWith Means (λ l. l ≡ lines.Destroy) (line_of destroy_words ++ rest) rest
   destroy_line rest = begins (λ l. l ≡ lines.Destroy) (codes "destroy") [] rest (clean_text (codes "destroy") refl, tt) (λ e. absurd (omega arith)) destroy_closes
+
+  -- ---- a remark
+  remark_closes : (line : List ℕ) (ws : List (List ℕ)) → words_of line ≡ codes "#" ∷ ws → IsBlank line → (l : Line S C O) → Means line l → l ≡ lines.Blank
+  remark_closes line ws is blank lines.Blank m = refl
+  remark_closes line ws is blank lines.Bad m = absurd (m.gives blank)
+  remark_closes line ws is blank (lines.Configures s) m = let e : remarks ≡ sets = sym (ap kinds is) ∙ (ap kinds m.reads.is ∙ w.setting_kind s) in cc
+  remark_closes line ws is blank (lines.Asks c) m = absurd (w.command_remarks c (ap kinds (sym m.reads.is) ∙ ap kinds is))
+  remark_closes line ws is blank (lines.Other o) m = let e : remarks ≡ tells = sym (ap kinds is) ∙ w.other_kind (words_of line) o m.reads in cc
+  remark_closes line ws is blank lines.New m = let e : remarks ≡ ends = sym (ap kinds is) ∙ ap kinds m.reads in cc
+  remark_closes line ws is blank lines.Destroy m = let e : remarks ≡ ends = sym (ap kinds is) ∙ ap kinds m.reads in cc
+
+  begins_remark : (ws : List (List ℕ)) → IsRemark (joined (codes "#" ∷ ws))
+  begins_remark [] = refl
+  begins_remark (v ∷ ws) = refl
+
+  remark_line : (ws : List (List ℕ)) → AreClean (codes "#" ∷ ws) → BeginsWith Means (λ l. l ≡ lines.Blank) (line_of (codes "#" ∷ ws)) []
+  remark_line ws clean =
+      let line = joined (codes "#" ∷ ws) in
+      let blank : IsBlank line = record { ascii = ascii line (joined-printed (codes "#" ∷ ws) clean); remark = begins_remark ws } in record {
+        line = line;
+        split = ap lines_of (sym (append-nil (line_of (codes "#" ∷ ws)))) ∙ lines-first (codes "#" ∷ ws) [] clean;
+        reads = λ l m. remark_closes line ws (words-joined (codes "#") ws clean) blank l m;
+      }
+
+  -- what ends a capture early
+  pub ended_line : (e : CaptureEnd) → (e ≡ Whole → ⊥) → (is_destroyed : Bool) → BeginsWith Means (λ l. l ≡ lines.Blank) (last_line e is_destroyed) []
+  ended_line Whole early is_destroyed = absurd (early refl)
+  ended_line TooLong early is_destroyed = remark_line too_long (clean_words (codes "#" ∷ too_long) refl)
+  ended_line HostOutOfMemory early is_destroyed = remark_line no_memory (clean_words (codes "#" ∷ no_memory) refl)

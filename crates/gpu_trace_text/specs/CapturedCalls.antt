@@ -1,5 +1,5 @@
 -- What the reader makes of the calls and the device of a Vulkan allocator's capture.
-use Rattle.std.specs.Prelude.{◌≡◌, ℕ, ◌<◌, ◌^◌, List, [], ◌∷◌, ◌++◌, map, All}
+use Rattle.std.specs.Prelude.{◌≡◌, ◌<◌, ◌^◌, List, [], ◌∷◌, ◌++◌, map, All}
 use Rattle.gpu_device.specs.declared.vulkan.types.MemoryTypeInfo.{MemoryTypeInfo}
 use Rattle.gpu_capture.specs.declared.device.BlockSizes.{BlockSizes}
 use Rattle.gpu_capture.specs.declared.device.VulkanDevice.{VulkanDevice}

@@ -1,6 +1,6 @@
 //! Laws of captures, each the contract of a function that does nothing: what a capture wrote reads back.
 
-ghost use Rattle.std.specs.Prelude.{◌≡◌, ℕ, ◌<◌, ◌^◌, ◌++◌, List, Option, [], All, Bool};
+ghost use Rattle.std.specs.Prelude.{◌≡◌, ◌≢◌, ℕ, ◌<◌, ◌^◌, ◌++◌, ◌∷◌, List, Option, [], All, Bool};
 ghost use Rattle.gpu_capture.specs.declared.request.Request.TheVariants.{Vulkan};
 ghost use Rattle.gpu_capture.specs.declared.request.VulkanRequest.{VulkanRequest};
 ghost use Rattle.gpu_capture.specs.Line.{line_of, name_word};
@@ -22,7 +22,7 @@ ghost use Rattle.gpu_trace_text.specs.Setting.{words as setting_words, Fits as F
 ghost use Rattle.gpu_trace_text.specs.declared.device.setting.Setting.{Setting};
 ghost use Rattle.gpu_trace_text.specs.declared.dialect.Line.TheVariants as lines;
 ghost use Rattle.gpu_trace_text.specs.CapturedCalls.{FitsCall, IsCall, refuse_setting, device_settings};
-ghost use Rattle.gpu_trace_text.specs.CapturedTrace.{ReadsAs, parts_of};
+ghost use Rattle.gpu_trace_text.specs.CapturedTrace.{Remarks, ReadsAs, ReadsUpTo, last_part, parts_of};
 
 use std::alloc::Global;
 
@@ -96,5 +96,17 @@ pub fn trace_reads_back(alloc: Global)
         → Kept calls begun done → done.end ≡ Whole
         → All FitsSetting (device_settings device sizes) → All FitsCall calls
         → ReadsAs Means IsCall (parts_of refuse_setting (device_settings device sizes) questions calls
-        is_destroyed) (text done is_destroyed) }
+        (last_part is_destroyed)) (text done is_destroyed) }
+{}
+
+/// The trace of a capture that ended early: it is read as the device's settings, the questions that were refused to the calls before the one
+/// that it ended at, these calls, and a remark, and as nothing else, whether or not the allocator is gone.
+pub fn ended_trace_reads_back(alloc: Global)
+    ensures { (device : VulkanDevice) (sizes : BlockSizes) (questions : ℕ) (calls : List Call)
+        (is_destroyed : Bool) (begun done : CaptureState)
+        → Keeps blank (with_lines blank (vulkan_lines device sizes) [] questions) begun → begun.end ≡ Whole
+        → Kept calls begun done → done.end ≢ Whole
+        → All FitsSetting (device_settings device sizes) → All FitsCall calls
+        → ReadsUpTo Means IsCall (λ written. parts_of refuse_setting
+        (device_settings device sizes) questions written (Remarks ∷ [])) calls (text done is_destroyed) }
 {}

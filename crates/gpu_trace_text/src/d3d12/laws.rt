@@ -1,6 +1,6 @@
 //! Laws of captures of DirectX 12, each the contract of a function that does nothing: what a capture wrote reads back.
 
-ghost use Rattle.std.specs.Prelude.{◌≡◌, ℕ, ◌<◌, ◌^◌, ◌++◌, List, Option, [], All, Bool};
+ghost use Rattle.std.specs.Prelude.{◌≡◌, ◌≢◌, ℕ, ◌<◌, ◌^◌, ◌++◌, ◌∷◌, List, Option, [], All, Bool};
 ghost use Rattle.gpu_device.specs.declared.d3d12.types.ResourceHeapTier.{ResourceHeapTier};
 ghost use Rattle.gpu_capture.specs.declared.request.Request.TheVariants as requests;
 ghost use Rattle.gpu_capture.specs.declared.request.D3D12Request.{D3D12Request};
@@ -26,7 +26,7 @@ ghost use Rattle.gpu_trace_text.specs.declared.d3d12.setting.Setting.{Setting};
 ghost use Rattle.gpu_trace_text.specs.declared.dialect.Line.TheVariants as lines;
 ghost use Rattle.gpu_trace_text.specs.Any.{d3d12_line};
 ghost use Rattle.gpu_trace_text.specs.D3D12Calls.{FitsCall, IsCall, IsCreate, refuse_setting, device_settings};
-ghost use Rattle.gpu_trace_text.specs.CapturedTrace.{IsOfSort, parts_of};
+ghost use Rattle.gpu_trace_text.specs.CapturedTrace.{Remarks, IsOfSort, ReadsAs, ReadsUpTo, last_part, parts_of};
 
 use std::alloc::Global;
 
@@ -113,6 +113,18 @@ pub fn trace_reads_back(alloc: Global)
         → Keeps blank (with_lines blank (d3d12_lines tier sizes) [] questions) begun
         → Kept calls begun done → done.end ≡ Whole
         → All FitsSetting (device_settings tier sizes) → All FitsCall calls
-        → IsOfSort Means IsCall d3d12_line (parts_of refuse_setting (device_settings tier sizes) questions calls
-        is_destroyed) (text done is_destroyed) }
+        → IsOfSort d3d12_line (ReadsAs Means IsCall (parts_of refuse_setting (device_settings tier sizes) questions calls
+        (last_part is_destroyed))) (text done is_destroyed) }
+{}
+
+/// The trace of a capture that ended early: it is read as the device's settings, the questions that were refused to the calls before the one
+/// that it ended at, these calls, and a remark, and as nothing else, whether or not the allocator is gone.
+pub fn ended_trace_reads_back(alloc: Global)
+    ensures { (tier : ResourceHeapTier) (sizes : BlockSizes) (questions : ℕ) (calls : List Call)
+        (is_destroyed : Bool) (begun done : CaptureState)
+        → Keeps blank (with_lines blank (d3d12_lines tier sizes) [] questions) begun → begun.end ≡ Whole
+        → Kept calls begun done → done.end ≢ Whole
+        → All FitsSetting (device_settings tier sizes) → All FitsCall calls
+        → IsOfSort d3d12_line (ReadsUpTo Means IsCall (λ written. parts_of refuse_setting
+        (device_settings tier sizes) questions written (Remarks ∷ [])) calls) (text done is_destroyed) }
 {}

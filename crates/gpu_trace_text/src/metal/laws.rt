@@ -1,6 +1,6 @@
 //! Laws of captures of Metal, each the contract of a function that does nothing: what a capture wrote reads back.
 
-ghost use Rattle.std.specs.Prelude.{◌≡◌, ℕ, ◌<◌, ◌^◌, [], ◌∷◌, ◌++◌, List, Option, codes, All, Bool};
+ghost use Rattle.std.specs.Prelude.{◌≡◌, ◌≢◌, ℕ, ◌<◌, ◌^◌, [], ◌∷◌, ◌++◌, List, Option, codes, All, Bool};
 ghost use Rattle.gpu_capture.specs.declared.request.Request.TheVariants as requests;
 ghost use Rattle.gpu_capture.specs.declared.request.MetalRequest.{MetalRequest};
 ghost use Rattle.gpu_capture.specs.Line.{line_of};
@@ -23,7 +23,7 @@ ghost use Rattle.gpu_trace_text.specs.declared.metal.setting.Setting.{Setting};
 ghost use Rattle.gpu_trace_text.specs.declared.dialect.Line.TheVariants as lines;
 ghost use Rattle.gpu_trace_text.specs.Any.{metal_line};
 ghost use Rattle.gpu_trace_text.specs.MetalCalls.{FitsCall, IsCall, refuse_setting, device_settings};
-ghost use Rattle.gpu_trace_text.specs.CapturedTrace.{IsOfSort, parts_of};
+ghost use Rattle.gpu_trace_text.specs.CapturedTrace.{Remarks, IsOfSort, ReadsAs, ReadsUpTo, last_part, parts_of};
 
 use std::alloc::Global;
 
@@ -95,6 +95,18 @@ pub fn trace_reads_back(alloc: Global)
         → Keeps blank (with_lines blank (metal_lines has_set sizes) [] questions) begun
         → Kept calls begun done → done.end ≡ Whole
         → All FitsSetting (device_settings has_set sizes) → All FitsCall calls
-        → IsOfSort Means IsCall metal_line (parts_of refuse_setting (device_settings has_set sizes) questions calls
-        is_destroyed) (text done is_destroyed) }
+        → IsOfSort metal_line (ReadsAs Means IsCall (parts_of refuse_setting (device_settings has_set sizes) questions calls
+        (last_part is_destroyed))) (text done is_destroyed) }
+{}
+
+/// The trace of a capture that ended early: it is read as the device's settings, the questions that were refused to the calls before the one
+/// that it ended at, these calls, and a remark, and as nothing else, whether or not the allocator is gone.
+pub fn ended_trace_reads_back(alloc: Global)
+    ensures { (has_set : Bool) (sizes : BlockSizes) (questions : ℕ) (calls : List Call)
+        (is_destroyed : Bool) (begun done : CaptureState)
+        → Keeps blank (with_lines blank (metal_lines has_set sizes) [] questions) begun → begun.end ≡ Whole
+        → Kept calls begun done → done.end ≢ Whole
+        → All FitsSetting (device_settings has_set sizes) → All FitsCall calls
+        → IsOfSort metal_line (ReadsUpTo Means IsCall (λ written. parts_of refuse_setting
+        (device_settings has_set sizes) questions written (Remarks ∷ [])) calls) (text done is_destroyed) }
 {}
