@@ -26,6 +26,7 @@ struct binding {
     mutex lock;             /* of the allocator, the live allocations and the capture */
     struct table live;
     uint64_t last_serial, live_count;
+    uint64_t changes; /* how often a budget may have changed */
     struct capture capture;
 };
 
@@ -93,10 +94,12 @@ static int32_t note_answer(struct asked *asked, bool refused, HRESULT driver) {
 }
 
 static void capture_bounds(struct binding *b) {
-    for (size_t i = 0; i < b->type_count && is_captured(&b->capture); i++) {
+    if (!lacks_bounds(&b->capture, b->changes)) return;
+    for (size_t i = 0; i < b->type_count; i++) {
         pilhangko_budget now;
         if (pilhangko_heaps_budget(&b->heaps, i, &now) == PILHANGKO_OK) capture_bound(&b->capture, i, &now);
     }
+    b->capture.seen = b->changes;
 }
 
 /* The call `allocate`. An allocation is called by its serial number; one that was refused by the next one's. */
@@ -621,6 +624,7 @@ static pilhangko_status follow_adapter(struct binding *b) {
         const UINT64 left = of->budget > of->usage ? of->budget - of->usage : 0, held = held_of_type(b, i);
         status = pilhangko_heaps_set_budget(&b->heaps, i, true, left <= UINT64_MAX - held ? held + left : UINT64_MAX);
     }
+    b->changes++;
     return status;
 }
 
@@ -643,6 +647,7 @@ pilhangko_status PILHANGKO_CALL pilhangko_d3d12_set_budget(
     if (!d3d12->opaque) return PILHANGKO_NO_HANDLE;
     b = enter(binding_of(d3d12));
     status = pilhangko_heaps_set_budget(&b->heaps, memory_type, has_budget, bytes);
+    b->changes++;
     leave(b);
     return status;
 }

@@ -49,6 +49,7 @@ struct binding {
     mutex lock;             /* of the allocator, the live allocations and the capture */
     struct table live;
     uint64_t last_serial, live_count;
+    uint64_t changes; /* how often a budget may have changed */
     struct capture capture;
 };
 
@@ -127,10 +128,12 @@ struct asked {
 
 static void capture_bounds(struct binding *b) {
     pilhangko_type_statistics type;
-    for (size_t i = 0; is_captured(&b->capture) && pilhangko_metal_heaps_type_statistics(&b->heaps, i, &type) == PILHANGKO_OK; i++) {
+    if (!lacks_bounds(&b->capture, b->changes)) return;
+    for (size_t i = 0; pilhangko_metal_heaps_type_statistics(&b->heaps, i, &type) == PILHANGKO_OK; i++) {
         const pilhangko_budget now = {type.has_budget, type.budget};
         capture_bound(&b->capture, i, &now);
     }
+    b->capture.seen = b->changes;
 }
 
 /* The call `allocate`. An allocation is called by its serial number; one that was refused by the next one's. */
@@ -586,6 +589,7 @@ static pilhangko_status follow_device(struct binding *b) {
     uint64_t held;
     for (uint32_t i = 0; status == PILHANGKO_OK && pilhangko_metal_heaps_type_capacity(&b->heaps, i, &held) == PILHANGKO_OK; i++)
         status = pilhangko_metal_heaps_set_budget(&b->heaps, i, true, left <= UINT64_MAX - held ? held + left : UINT64_MAX);
+    b->changes++;
     return status;
 }
 
@@ -608,6 +612,7 @@ pilhangko_status PILHANGKO_CALL pilhangko_metal_set_budget(
     if (!metal->opaque) return PILHANGKO_NO_HANDLE;
     b = enter(binding_of(metal));
     status = pilhangko_metal_heaps_set_budget(&b->heaps, memory_type, has_budget, bytes);
+    b->changes++;
     leave(b);
     return status;
 }

@@ -126,6 +126,7 @@ struct capture {
     pilhangko_capture kept;
     bool(PILHANGKO_CALL *write)(void *user, const char *bytes, size_t length); /* NULL where there is no capture */
     void *user;
+    uint64_t seen; /* how often its binding's bounds of memory types had changed when it was handed them last */
 };
 
 static inline bool is_captured(const struct capture *c) {
@@ -135,6 +136,12 @@ static inline bool is_captured(const struct capture *c) {
 static inline void drop_capture(struct capture *c) {
     if (is_captured(c)) (void)pilhangko_capture_destroy(&c->kept);
     c->write = NULL;
+}
+
+/* Whether it lacks bounds that have changed so often; a binding begins without bounds, at 0. A call costs little behind one that changed none,
+ * however many memory types there are. */
+static inline bool lacks_bounds(const struct capture *c, uint64_t changes) {
+    return is_captured(c) && c->seen != changes;
 }
 
 /* Behind each call that a capture is to have. The library keeps all that an allocator took; a capture that lacks a call would tell of another

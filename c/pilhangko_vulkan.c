@@ -4,39 +4,34 @@
 
 /* ---- captures ---- */
 
-/* The lesser of a bound and so many bytes. */
-static void lower(pilhangko_budget *bound, VkDeviceSize bytes) {
-    if (!bound->exists || bytes < bound->bytes) bound->bytes = bytes;
-    bound->exists = true;
-}
+/* The bounds of memory types by which the next request is served, where the capture hasn't them. A trace bounds no heaps, and not how many blocks
+ * there are: each memory type has what it may have now. */
+struct bounds {
+    pilhangko_budget of_types[VK_MAX_MEMORY_TYPES];
+    bool are_known;
+    uint64_t changes;
+};
 
-/* The bounds of memory types by which the next request is served. A trace bounds no heaps, and not how many blocks there are: of a heap each
- * memory type has what the others leave, and where no block may come each has what it holds. */
-static void tell_bounds(const struct binding *b, pilhangko_budget *bounds) {
-    bool has_most = false;
-    size_t most = 0;
-    if (pilhangko_allocator_most_blocks(&b->allocator, &has_most, &most) != PILHANGKO_OK) return;
-    for (uint32_t i = 0; i < b->common->properties.memoryTypeCount; i++) {
-        const uint32_t heap = b->common->properties.memoryTypes[i].heapIndex;
-        const VkDeviceSize held = held_of_type(b, i), others = held_of_heap(b, heap) - held;
-        pilhangko_budget limit;
-        if (pilhangko_allocator_budget(&b->allocator, i, &bounds[i]) != PILHANGKO_OK) return;
-        if (pilhangko_allocator_heap_limit(&b->allocator, heap, &limit) != PILHANGKO_OK) return;
-        if (limit.exists) lower(&bounds[i], limit.bytes > others ? limit.bytes - others : 0);
-        if (has_most && b->block_count >= most) lower(&bounds[i], held);
+static void note_bounds(const struct binding *b, struct bounds *bounds) {
+    bounds->changes = b->changes;
+    bounds->are_known = !lacks_bounds(&b->capture, b->changes);
+    for (uint32_t i = 0; !bounds->are_known && i < b->common->properties.memoryTypeCount; i++) {
+        const pilhangko_status status = pilhangko_allocator_bound(&b->allocator, i, &bounds->of_types[i]);
+        (void)status; /* the allocator is there */
     }
 }
 
-static void capture_bounds(struct binding *b, const pilhangko_budget *bounds) {
-    for (uint32_t i = 0; i < b->common->properties.memoryTypeCount; i++) capture_bound(&b->capture, i, &bounds[i]);
+static void capture_bounds(struct binding *b, const struct bounds *bounds) {
+    for (uint32_t i = 0; !bounds->are_known && i < b->common->properties.memoryTypeCount; i++)
+        capture_bound(&b->capture, i, &bounds->of_types[i]);
+    b->capture.seen = bounds->changes;
 }
 
 /* The same as they are now. */
 static void capture_bounds_now(struct binding *b) {
-    pilhangko_budget bounds[VK_MAX_MEMORY_TYPES];
-    if (!is_captured(&b->capture)) return;
-    tell_bounds(b, bounds);
-    capture_bounds(b, bounds);
+    struct bounds bounds;
+    note_bounds(b, &bounds);
+    capture_bounds(b, &bounds);
 }
 
 /* How many answers a captured call has at most: its binding has no smaller blocks, so it makes two attempts, each with a question for memory
@@ -69,7 +64,7 @@ static bool is_refused_last(const struct asked *asked) {
 
 /* The call `allocate`, before which these were the bounds. An allocation is called by its serial number; one that was refused by the next one's.
  * One that flags chose the memory for is one of its memory type alone; where it was refused it changed nothing, and isn't captured. */
-static void capture_call(struct binding *b, const struct wanted *wanted, const pilhangko_budget *bounds, pilhangko_status status, size_t type,
+static void capture_call(struct binding *b, const struct wanted *wanted, const struct bounds *bounds, pilhangko_status status, size_t type,
     const struct asked *asked) {
     pilhangko_allocator_request asks = wanted->asks;
     if (!has_line(&b->capture, status) || (wanted->by_flags && status != PILHANGKO_OK)) return;
@@ -169,6 +164,7 @@ static pilhangko_status ask(
     progress->kind = PILHANGKO_PROGRESS_PIECE;
     status = pilhangko_allocator_granted(&b->allocator, (uint64_t)memory, (uintptr_t)mapped, &progress->piece);
     b->block_count++;
+    b->changes++;
     share_again(b->common);
     return status;
 }
@@ -217,14 +213,14 @@ static pilhangko_vulkan_result allocate_alone(
     struct binding *b, const pilhangko_vulkan_request *request, pilhangko_vulkan_allocation *allocation) {
     struct wanted wanted;
     pilhangko_allocator_progress progress;
-    pilhangko_budget bounds[VK_MAX_MEMORY_TYPES];
+    struct bounds bounds;
     struct asked asked;
     pilhangko_status status = wants(b, request, &wanted);
     if (status != PILHANGKO_OK) return undriven(status);
     /* before the driver is asked, so that nothing can fail behind its grant */
     if (!has_spare(&b->live)) return undriven(PILHANGKO_HOST_OUT_OF_MEMORY);
     memset(&asked, 0, sizeof asked);
-    if (is_captured(&b->capture)) tell_bounds(b, bounds);
+    note_bounds(b, &bounds);
     status = begin(b, &wanted, &progress);
     while (status == PILHANGKO_OK && progress.kind == PILHANGKO_PROGRESS_QUESTION) {
         if (wanted.by_flags) forget_questions(&asked);
@@ -232,7 +228,7 @@ static pilhangko_vulkan_result allocate_alone(
     }
     if (status == PILHANGKO_OK) status = progress.status;
     if (wanted.by_flags && is_refused_last(&asked)) forget_questions(&asked); /* the last one's place was there */
-    capture_call(b, &wanted, bounds, status, status == PILHANGKO_OK ? progress.piece.memory_type : 0, &asked);
+    capture_call(b, &wanted, &bounds, status, status == PILHANGKO_OK ? progress.piece.memory_type : 0, &asked);
     if (status != PILHANGKO_OK) return result_of(status, asked.driver);
     keep_allocation(b, &progress.piece, request->user_data, wanted.asks.scheme != PILHANGKO_SCHEME_MANAGED, allocation);
     return undriven(PILHANGKO_OK);
@@ -257,6 +253,7 @@ static pilhangko_status free_alone(struct binding *b, const pilhangko_vulkan_all
     if (back.exists) {
         give_back(b, back.memory, back.mapped);
         b->block_count--;
+        b->changes++;
         share_again(b->common);
     }
     return PILHANGKO_OK;

@@ -40,6 +40,7 @@ struct binding {
     struct table live;
     uint64_t last_serial, live_count;
     size_t block_count;
+    uint64_t changes; /* how often what bounds its memory types may have changed */
     struct capture capture;
 };
 
@@ -141,6 +142,7 @@ static inline void share_bounds(const struct common *c) {
     for (struct binding *it = c->first; it; it = it->next_pool) {
         share_blocks(it);
         for (uint32_t heap = 0; heap < c->properties.memoryHeapCount; heap++) share_heap(it, heap);
+        it->changes++;
     }
 }
 

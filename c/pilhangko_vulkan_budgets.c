@@ -64,6 +64,7 @@ pilhangko_status PILHANGKO_CALL pilhangko_vulkan_set_budget(
     if (!vulkan->opaque) return PILHANGKO_NO_HANDLE;
     b = enter(binding_of(vulkan));
     status = pilhangko_allocator_set_budget(&b->allocator, memory_type, has_budget, bytes);
+    b->changes++;
     leave(b);
     return status;
 }

@@ -782,6 +782,8 @@ PILHANGKO_NODISCARD PILHANGKO_API pilhangko_status PILHANGKO_CALL pilhangko_raw_
     pilhangko_allocator *allocator, size_t heap, bool has_limit, uint64_t bytes);
 PILHANGKO_NODISCARD PILHANGKO_API pilhangko_status PILHANGKO_CALL pilhangko_raw_allocator_heap_limit(
     const pilhangko_allocator *allocator, size_t heap, pilhangko_budget *limit);
+PILHANGKO_NODISCARD PILHANGKO_API pilhangko_status PILHANGKO_CALL pilhangko_raw_allocator_bound(
+    const pilhangko_allocator *allocator, size_t memory_type, pilhangko_budget *bound);
 PILHANGKO_NODISCARD PILHANGKO_API pilhangko_status PILHANGKO_CALL pilhangko_raw_allocator_set_most_blocks(
     pilhangko_allocator *allocator, bool has_most, size_t count);
 PILHANGKO_NODISCARD PILHANGKO_API pilhangko_status PILHANGKO_CALL pilhangko_raw_allocator_most_blocks(
@@ -1518,7 +1520,7 @@ PILHANGKO_NODISCARD static inline pilhangko_status pilhangko_allocator_set_budge
     return pilhangko_raw_allocator_set_budget(allocator, memory_type, has_budget, bytes);
 }
 
-/* The bound of a memory type; none where it has none, or isn't there.
+/* The budget of a memory type; none where it has none, or isn't there.
  * NO_HANDLE. */
 PILHANGKO_NODISCARD static inline pilhangko_status pilhangko_allocator_budget(
     const pilhangko_allocator *allocator, size_t memory_type, pilhangko_budget *budget) {
@@ -1541,6 +1543,15 @@ PILHANGKO_NODISCARD static inline pilhangko_status pilhangko_allocator_heap_limi
     const pilhangko_allocator *allocator, size_t heap, pilhangko_budget *limit) {
     if (!allocator || !limit) return PILHANGKO_NULL_POINTER;
     return pilhangko_raw_allocator_heap_limit(allocator, heap, limit);
+}
+
+/* The greatest sum that the blocks of a memory type may have now: by its budget, by what its heap's other blocks leave of the heap's limit, and by
+ * how many blocks there may be; none where nothing bounds it.
+ * NO_HANDLE. */
+PILHANGKO_NODISCARD static inline pilhangko_status pilhangko_allocator_bound(
+    const pilhangko_allocator *allocator, size_t memory_type, pilhangko_budget *bound) {
+    if (!allocator || !bound) return PILHANGKO_NULL_POINTER;
+    return pilhangko_raw_allocator_bound(allocator, memory_type, bound);
 }
 
 /* Bounds how many blocks there may be, of all memory types together (maxMemoryAllocationCount), or takes the bound away. A bound below their present
@@ -1843,7 +1854,7 @@ PILHANGKO_NODISCARD static inline pilhangko_status pilhangko_heaps_set_budget(
     return pilhangko_raw_heaps_set_budget(heaps, memory_type, has_budget, bytes);
 }
 
-/* The bound of a memory type; none where it has none, or isn't there.
+/* The budget of a memory type; none where it has none, or isn't there.
  * NO_HANDLE. */
 PILHANGKO_NODISCARD static inline pilhangko_status pilhangko_heaps_budget(
     const pilhangko_heaps *heaps, size_t memory_type, pilhangko_budget *budget) {
@@ -2051,7 +2062,7 @@ PILHANGKO_NODISCARD static inline pilhangko_status pilhangko_metal_heaps_set_bud
     return pilhangko_raw_metal_heaps_set_budget(heaps, memory_type, has_budget, bytes);
 }
 
-/* The bound of a memory type; none where it has none, or isn't there.
+/* The budget of a memory type; none where it has none, or isn't there.
  * NO_HANDLE. */
 PILHANGKO_NODISCARD static inline pilhangko_status pilhangko_metal_heaps_budget(
     const pilhangko_metal_heaps *heaps, size_t memory_type, pilhangko_budget *budget) {

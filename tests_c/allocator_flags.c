@@ -142,6 +142,12 @@ static void is_limit(const pilhangko_allocator *a, size_t heap, bool exists, uin
     CHECK(limit.exists == exists && limit.bytes == bytes);
 }
 
+static void is_bound(const pilhangko_allocator *a, size_t type, bool exists, uint64_t bytes) {
+    pilhangko_budget bound = {!exists, 77};
+    IS(pilhangko_allocator_bound(a, type, &bound), PILHANGKO_OK);
+    CHECK(bound.exists == exists && bound.bytes == bytes);
+}
+
 /* A new block of that memory type, of 4 MB. */
 static void grows(pilhangko_allocator *a, uint32_t type, uint64_t memory, pilhangko_allocator_piece *piece) {
     const pilhangko_allocator_request r = asks(4 * MB, UINT32_C(1) << type);
@@ -166,9 +172,22 @@ static void limits(void) {
     IS(pilhangko_allocator_set_heap_limit(&a, 1, true, 12 * MB), PILHANGKO_OK);
     is_limit(&a, 1, true, 12 * MB);
     is_limit(&a, 0, false, 0);
+    is_bound(&a, 0, false, 0);
+    is_bound(&a, 1, true, 12 * MB);
+    is_bound(&a, 3, true, 12 * MB);
+    is_bound(&a, 99, false, 0);
     grows(&a, 1, 1, &piece);
     grows(&a, 3, 2, &piece);
     grows(&a, 1, 3, &piece);
+    /* each has what the other leaves, or its budget where that is less */
+    is_bound(&a, 1, true, 8 * MB);
+    is_bound(&a, 3, true, 4 * MB);
+    IS(pilhangko_allocator_set_budget(&a, 1, true, 8 * MB + 1), PILHANGKO_OK);
+    IS(pilhangko_allocator_set_budget(&a, 3, true, 4 * MB - 1), PILHANGKO_OK);
+    is_bound(&a, 1, true, 8 * MB);
+    is_bound(&a, 3, true, 4 * MB - 1);
+    IS(pilhangko_allocator_set_budget(&a, 1, false, 0), PILHANGKO_OK);
+    IS(pilhangko_allocator_set_budget(&a, 3, false, 0), PILHANGKO_OK);
     /* 12 MB are there: neither memory type of the heap has a fourth block, by its location or by flags, but heap 0 has */
     IS(pilhangko_allocator_begin(&a, &plain, "four", &p), PILHANGKO_BUDGET_EXCEEDED);
     IS(pilhangko_allocator_begin(&a, &cached, "four", &p), PILHANGKO_BUDGET_EXCEEDED);
@@ -189,6 +208,7 @@ static void limits(void) {
     IS(pilhangko_allocator_free(&a, &piece, &back), PILHANGKO_OK);
     CHECK(back.exists && back.memory == 3);
     IS(pilhangko_allocator_set_heap_limit(&a, 1, true, 0), PILHANGKO_OK);
+    is_bound(&a, 1, true, 0);
     IS(pilhangko_allocator_begin(&a, &cached, "three", &p), PILHANGKO_BUDGET_EXCEEDED);
     IS(pilhangko_allocator_capacity(&a, &bytes), PILHANGKO_OK);
     CHECK(bytes == 8 * MB);
@@ -202,6 +222,9 @@ static void limits(void) {
     IS(pilhangko_allocator_destroy(&a), PILHANGKO_OK);
     IS(pilhangko_allocator_set_heap_limit(&empty, 0, true, 1), PILHANGKO_NO_HANDLE);
     IS(pilhangko_allocator_heap_limit(&empty, 0, &limit), PILHANGKO_NO_HANDLE);
+    IS(pilhangko_allocator_bound(&empty, 0, &limit), PILHANGKO_NO_HANDLE);
+    IS(pilhangko_allocator_bound(&a, 0, NULL), PILHANGKO_NULL_POINTER);
+    IS(pilhangko_allocator_bound(NULL, 0, &limit), PILHANGKO_NULL_POINTER);
     IS(pilhangko_allocator_set_heap_limit(NULL, 0, true, 1), PILHANGKO_NULL_POINTER);
     IS(pilhangko_allocator_heap_limit(&a, 0, NULL), PILHANGKO_NULL_POINTER);
 }
@@ -221,7 +244,10 @@ static void block_counts(void) {
     IS(pilhangko_allocator_most_blocks(&a, &has_most, &most), PILHANGKO_OK);
     CHECK(has_most && most == 2);
     grows(&a, 0, 1, &piece);
+    is_bound(&a, 0, false, 0);
     grows(&a, 1, 2, &piece);
+    is_bound(&a, 0, true, 4 * MB);
+    is_bound(&a, 2, true, 0);
     IS(pilhangko_allocator_begin(&a, &plain, "three", &p), PILHANGKO_BUDGET_EXCEEDED);
     IS(pilhangko_allocator_begin(&a, &small, "three", &p), PILHANGKO_BUDGET_EXCEEDED);
     IS(pilhangko_allocator_begin_by_flags(&a, &plain, "three", &(pilhangko_preference){0, 0, 0, false}, &p), PILHANGKO_BUDGET_EXCEEDED);

@@ -666,6 +666,23 @@ static void limits_heap(void) {
     CHECK(told.exists == bounded && told.bytes == (bounded ? account.limit[at] : 0));
 }
 
+/* What bounds a memory type's blocks now, of whichever sort: a new one may come where it is within that. */
+static void same_bound(size_t at) {
+    pilhangko_budget told;
+    IS(pilhangko_allocator_bound(&allocator, at, &told), allocator_status(false, PILHANGKO_OK));
+    if (!has_allocator || at >= account.type_count) return;
+    const struct type_account *t = &account.types[at];
+    const size_t heap = account.heap[at];
+    const bool full = account.has_most && block_count(&account) >= account.most_blocks;
+    uint64_t others = 0, least = UINT64_MAX;
+    for (size_t i = 0; i < account.type_count; i++) others += i != at && account.heap[i] == heap ? type_capacity(&account.types[i]) : 0;
+    if (t->has_budget) least = t->budget;
+    if (account.has_limit[heap] && what_is_left(account.limit[heap], others) < least) least = what_is_left(account.limit[heap], others);
+    if (full && type_capacity(t) < least) least = type_capacity(t);
+    CHECK(told.exists == (t->has_budget || account.has_limit[heap] || full));
+    CHECK(told.bytes == (told.exists ? least : 0));
+}
+
 static void same_type_statistics(size_t at) {
     const struct type_account *t = &account.types[at];
     const bool is_there = has_allocator && at < account.type_count;
@@ -734,6 +751,7 @@ static void looks_at_allocator(void) {
     IS(pilhangko_allocator_statistics(&allocator, &all), allocator_status(false, PILHANGKO_OK));
     CHECK(!has_allocator || (bytes == allocator_capacity(&account) && all.capacity == bytes && !all.has_budget));
     same_type_statistics(at);
+    same_bound(at);
     const size_t slot = next_byte() % 8;
     same_slot(at, slot, next_number());
     if (next_byte() % 4 == 0) same_texts(next_byte());

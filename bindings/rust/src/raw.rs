@@ -658,7 +658,7 @@ extern "C" {
         has_limit: bool,
         bytes: u64,
     ) -> u32;
-    pub(crate) fn pilhangko_raw_allocator_heap_limit(allocator: *mut Handle, heap: usize, limit: *mut Budget) -> u32;
+    pub(crate) fn pilhangko_raw_allocator_bound(allocator: *mut Handle, memory_type: usize, bound: *mut Budget) -> u32;
     pub(crate) fn pilhangko_raw_allocator_set_most_blocks(allocator: *mut Handle, has_most: bool, count: usize) -> u32;
     pub(crate) fn pilhangko_raw_allocator_set_smaller_blocks(allocator: *mut Handle, smaller_blocks: bool) -> u32;
     pub(crate) fn pilhangko_raw_allocator_capacity(allocator: *mut Handle, bytes: *mut u64) -> u32;

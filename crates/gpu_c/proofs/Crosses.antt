@@ -140,7 +140,7 @@ pub place_send : IsSend usize
 place_send = search sendable
 
 eras_send : IsSend (Eras.the_field).row
-eras_send = search (sendable, array_send) depth 20
+eras_send = let k = key_send in search (sendable, Vec-send) depth 20
 
 ids_send : IsSend (ChunkIds.the_field).row
 ids_send = let l = link_send in let e = eras_send in search (sendable, paged_send, Vec-send) depth 20

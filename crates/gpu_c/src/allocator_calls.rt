@@ -8,6 +8,7 @@ ghost use Rattle.gpu_core.specs.Blocks.{total_capacity};
 ghost use Rattle.gpu_core.specs.Budgets.{budget_at};
 ghost use Rattle.gpu_vulkan.specs.BlockAnswer.{memory_refusal, map_refusal};
 ghost use Rattle.gpu_pool.specs.Idle.{SetsBudgetIdle};
+ghost use Rattle.gpu_machine.specs.VulkanBound.{bound_at};
 ghost use Rattle.gpu_machine.specs.VulkanCalls.{SetsHeapLimit, SetsMostBlocks, SetsSmallerBlocks};
 ghost use Rattle.gpu_machine.specs.VulkanHeapLimit.{limit_at};
 ghost use Rattle.gpu_machine.specs.VulkanState.{told_fault};
@@ -449,7 +450,7 @@ pub extern "C" fn pilhangko_raw_allocator_set_budget(
     }
 }
 
-/// The bound of a memory type; none where it has none, or isn't there.
+/// The budget of a memory type; none where it has none, or isn't there.
 #[unsafe(no_mangle)]
 pub extern "C" fn pilhangko_raw_allocator_budget(
     allocator: &mut AllocatorHandle,
@@ -528,6 +529,32 @@ pub extern "C" fn pilhangko_raw_allocator_heap_limit(
         None => NO_HANDLE,
         Some(kept) => {
             *limit = budget_told(kept.heap_limit(heap));
+            allocator.put(kept);
+            OK
+        }
+    }
+}
+
+/// The greatest sum that the blocks of a memory type may have now: by its budget, by what its heap's other blocks leave of the heap's limit, and
+/// by how many blocks there may be; none where nothing bounds it.
+#[unsafe(no_mangle)]
+pub extern "C" fn pilhangko_raw_allocator_bound(
+    allocator: &mut AllocatorHandle,
+    alloc: Global,
+    memory_type: usize,
+    bound: &mut AllocatorBudget,
+) -> u32
+    ensures reported { result ≡ status.ok
+        → IsSomeAnd allocator.old.value (λ s. bound.new ≡ budget_told (bound_at s memory_type)) }
+    ensures no_handle { (result ≡ status.no_handle) ↔ (allocator.old.value ≡ None) }
+    ensures statuses { IsOneOf result (status.ok ∷ status.no_handle ∷ []) }
+    ensures same { allocator.new.value ≡ allocator.old.value }
+    ensures refused { result ≢ status.ok → bound.new ≡ bound.old }
+{
+    match allocator.take(alloc) {
+        None => NO_HANDLE,
+        Some(kept) => {
+            *bound = budget_told(kept.bound(memory_type));
             allocator.put(kept);
             OK
         }

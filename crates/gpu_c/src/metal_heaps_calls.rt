@@ -351,7 +351,7 @@ pub extern "C" fn pilhangko_raw_metal_heaps_set_budget(
     }
 }
 
-/// The bound of a memory type; none where it has none, or isn't there.
+/// The budget of a memory type; none where it has none, or isn't there.
 #[unsafe(no_mangle)]
 pub extern "C" fn pilhangko_raw_metal_heaps_budget(
     heaps: &mut MetalHeapsHandle,

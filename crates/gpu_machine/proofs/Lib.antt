@@ -1,4 +1,5 @@
 pub mod VulkanBeginning
+pub mod VulkanBounds
 pub mod VulkanRunning
 pub mod VulkanQuestions
 pub mod MetalBeginning

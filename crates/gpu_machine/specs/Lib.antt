@@ -6,6 +6,7 @@ pub mod VulkanRoom
 pub mod VulkanSmallerBlocks
 pub mod VulkanAsking
 pub mod VulkanAttempt
+pub mod VulkanBound
 pub mod VulkanByFlags
 pub mod VulkanBegin
 pub mod VulkanCalls

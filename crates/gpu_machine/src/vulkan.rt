@@ -3,6 +3,7 @@
 mod answer;
 mod asking;
 mod block_count;
+mod bound;
 mod description;
 mod heap_limit;
 pub mod laws;

@@ -412,7 +412,7 @@ impl Allocator {
         self.machine.set_budget(memory_type, budget)
     }
 
-    /// The bound of a memory type in bytes; `None` where it has none, or isn't there.
+    /// The budget of a memory type in bytes; `None` where it has none, or isn't there.
     pub fn budget(&self, memory_type: usize) -> Option<u64> {
         self.machine.budget(memory_type)
     }

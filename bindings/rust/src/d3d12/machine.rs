@@ -239,7 +239,7 @@ impl Machine {
 
 /// What is read of it.
 impl Machine {
-    /// The bound of a memory type, if it has one.
+    /// The budget of a memory type, if it has one.
     pub(super) fn budget(&self, memory_type: usize) -> Option<u64> {
         let mut budget = raw::Budget::default();
         // SAFETY: the handle is this machine's alone: it isn't `Sync`.

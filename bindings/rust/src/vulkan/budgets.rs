@@ -132,7 +132,7 @@ impl Allocator {
     }
 
     /// The bounds of memory types by which the next request is served, where a capture may have others. A trace bounds no heaps, and not how many
-    /// blocks there are: of a heap each memory type has what the others leave, and where no block may come each has what it holds.
+    /// blocks there are: each memory type has what it may have now.
     pub(super) fn captured_bounds(&self) -> Option<Bounds> {
         let changes = self.machine.changes;
         // a request costs little behind one that changed none of this, however many memory types there are
@@ -140,7 +140,7 @@ impl Allocator {
             return None;
         }
         let (mut of_types, types) = ([None; 32], self.device().memory_types().len());
-        (0..types).for_each(|index| of_types[index] = self.bound_of(index));
+        (0..types).for_each(|index| of_types[index] = self.machine.bound(index));
         Some(Bounds { of_types, types, changes })
     }
 
@@ -149,20 +149,5 @@ impl Allocator {
         if let (Some(capture), Some(bounds)) = (&self.capture, self.captured_bounds()) {
             bounds.record(capture);
         }
-    }
-
-    fn bound_of(&self, index: usize) -> Option<u64> {
-        let heap = self.device().memory_types()[index].heap_index as usize;
-        let held = self.type_capacity(index).unwrap_or(0);
-        let left = self.machine.heap_limit(heap).map(|limit| limit.saturating_sub(self.held_in(heap) - held));
-        let full = self.machine.is_full().then_some(held);
-        [self.budget(index), left, full].into_iter().flatten().min()
-    }
-
-    /// The sum of the sizes of its own blocks in a heap.
-    fn held_in(&self, heap: usize) -> u64 {
-        let types = self.device().memory_types().iter().enumerate();
-        let lie_there = types.filter(|(_, it)| it.heap_index as usize == heap);
-        lie_there.filter_map(|(index, _)| self.type_capacity(index)).sum()
     }
 }

@@ -92,7 +92,6 @@ pub(super) struct Machine {
     pub(super) handle: Handle,
     device: Device,
     blocks: usize,
-    most_blocks: Option<usize>,
     /// How often anything changed that bounds of memory types follow from: a budget, what the others leave, which blocks there are.
     pub(super) changes: u64,
     pub(super) share: Share,
@@ -123,7 +122,7 @@ impl Machine {
                 &raw_settings(device, sizes),
             )
         })?;
-        Ok(Machine { handle, device: device.clone(), blocks: 0, most_blocks: None, changes: 0, share })
+        Ok(Machine { handle, device: device.clone(), blocks: 0, changes: 0, share })
     }
 
     /// The device.
@@ -170,7 +169,6 @@ impl Machine {
 
     /// Bounds how many blocks there may be, or takes the bound away.
     pub(super) fn set_most_blocks(&mut self, most: Option<usize>) {
-        self.most_blocks = most;
         // SAFETY: the handle is this machine's alone.
         check_unrefused(unsafe {
             raw::pilhangko_raw_allocator_set_most_blocks(self.handle.as_ptr(), most.is_some(), most.unwrap_or(0))
@@ -186,11 +184,6 @@ impl Machine {
     /// How many blocks there are.
     pub(super) fn block_count(&self) -> usize {
         self.blocks
-    }
-
-    /// Whether no block may come.
-    pub(super) fn is_full(&self) -> bool {
-        self.most_blocks.is_some_and(|most| self.blocks >= most)
     }
 
     /// The driver granted this memory. A question is open.
@@ -295,7 +288,7 @@ impl Machine {
         })
     }
 
-    /// The bound of a memory type, if it has one.
+    /// The budget of a memory type, if it has one.
     pub(super) fn budget(&self, memory_type: usize) -> Option<u64> {
         let mut budget = raw::Budget::default();
         // SAFETY: the handle is this machine's alone: it isn't `Sync`.
@@ -315,12 +308,12 @@ impl Machine {
         status != raw::NO_SUCH_HEAP
     }
 
-    /// The limit of a heap, if it has one.
-    pub(super) fn heap_limit(&self, heap: usize) -> Option<u64> {
-        let mut limit = raw::Budget::default();
+    /// The greatest sum that the blocks of a memory type may have now, if anything bounds it.
+    pub(super) fn bound(&self, memory_type: usize) -> Option<u64> {
+        let mut bound = raw::Budget::default();
         // SAFETY: the handle is this machine's alone: it isn't `Sync`.
-        check_unrefused(unsafe { raw::pilhangko_raw_allocator_heap_limit(self.handle.as_ptr(), heap, &mut limit) });
-        limit.exists.then_some(limit.bytes)
+        check_unrefused(unsafe { raw::pilhangko_raw_allocator_bound(self.handle.as_ptr(), memory_type, &mut bound) });
+        bound.exists.then_some(bound.bytes)
     }
 
     /// The sum of the sizes of the live blocks in bytes.

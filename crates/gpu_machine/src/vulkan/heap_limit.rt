@@ -34,7 +34,7 @@ pub fn limit_at(limits: &[Option<u64>], heap: usize) -> Option<u64>
 }
 
 /// The sum of the sizes of the blocks of the memory type at `index`, in bytes; 0 where it isn't there.
-fn capacity_at<H: Copy + Eq>(types: &MemoryTypes<H>, index: usize) -> u64
+pub fn capacity_at<H: Copy + Eq>(types: &MemoryTypes<H>, index: usize) -> u64
     ensures { result ≡ capacity_of (slots_at (slots_of types.now) index) }
 {
     match types.memory_type(index) {

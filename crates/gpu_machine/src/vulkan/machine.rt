@@ -27,6 +27,7 @@ ghost use Rattle.gpu_machine.specs.VulkanBegin.{Tries, Follows, MakesAttempts, B
 ghost use Rattle.gpu_machine.specs.VulkanByFlags.{AttemptsBy, BeginsDown, GoesDown};
 ghost use Rattle.gpu_machine.specs.VulkanDescription.{description_of, without, IsWellFormed};
 ghost use Rattle.gpu_machine.specs.VulkanCalls.{memory_back, live_block, block_at, Frees, SetsHeapLimit, SetsMostBlocks, SetsSmallerBlocks};
+ghost use Rattle.gpu_machine.specs.VulkanBound.{bound_at, BoundsBlocks};
 ghost use Rattle.gpu_machine.specs.VulkanHeapLimit.{limit_at};
 ghost use Rattle.gpu_machine.specs.VulkanLive.{Gives, GivesAgain, GivesAwaited};
 ghost use Rattle.gpu_machine.specs.VulkanMove.{Proposes};
@@ -35,6 +36,7 @@ ghost use Rattle.gpu_machine.specs.VulkanSmallerBlocks.{sizes_in, bytes_left, sm
 use crate::vulkan::answer::{Allocated, LiveBlock, MemoryBack, Progress, Question};
 use crate::vulkan::asking::{Asking, Rest};
 use crate::vulkan::block_count::has_most;
+use crate::vulkan::bound::{heap_left, held_where_full, lesser};
 use crate::vulkan::description::without;
 use crate::vulkan::heap_limit::{limit_at, no_limits, passes_limit, within_budget, within_limit};
 use crate::vulkan::refusal::{is_bounded, lacks_room, no_such_heap, refusal_of_mapping};
@@ -393,6 +395,18 @@ impl<H: Copy + Eq> Machine<H> {
         ensures { result ≡ budget_at self.now.requests.budgets index }
     {
         self.memory_types().budget(index)
+    }
+
+    /// The greatest sum, in bytes, that the blocks of the memory type at `index` may have now: by its budget, by what its heap's other blocks
+    /// leave of the heap's limit, and by how many blocks there may be; `None` where nothing bounds it.
+    pub fn bound(&self, index: usize) -> Option<u64>
+        ensures value { result ≡ bound_at self.now index }
+        ensures law { BoundsBlocks self.now index result }
+    {
+        let types = self.memory_types();
+        let full = held_where_full(types, self.most_blocks, index);
+        let heap = heap_left(types, self.setup.memory_types(), &self.limits, index);
+        lesser(self.budget(index), lesser(full, heap))
     }
 
     /// Bounds the sum of the sizes of the blocks that lie in a heap, of whichever memory type, in bytes; `None` takes the bound away. A
