@@ -1,5 +1,5 @@
 -- Chunk ids in slots, and the chains in which they are found: each link leads to the greatest id of its chain that is left.
-use Rattle.std.specs.Prelude.{◌≡◌, ◌≢◌, ℕ, ◌+◌, ◌-◌, ◌^◌, ◌<◌, ◌≤◌, List, [], ◌∷◌, ◌++◌, map, length, replicate, Option, Some, None, MatchOption, cond, slice_index_or}
+use Rattle.std.specs.Prelude.{◌≡◌, ◌≢◌, ℕ, ◌+◌, ◌-◌, ◌/◌, ◌^◌, ◌<◌, ◌≤◌, max, nat_le, if◌then◌else◌, List, [], ◌∷◌, ◌++◌, map, length, replicate, Option, Some, None, MatchOption, cond, slice_index_or}
 use Rattle.std.specs.Option.{option_map}
 use Rattle.gpu_block_chunks.specs.declared.chain.link.LinkedChunk.{LinkedChunk}
 use Rattle.gpu_block_chunks.specs.declared.chain.chunk_ids.ChunkIds.{ChunkIds}
@@ -56,7 +56,7 @@ AreLinked ids chain_of chains link =
     (chain : ℕ) (before : Option ℕ) → chain < chains → IsOf ids chain_of chain before
     → LeadsTo ids (λ k. (chain_of k ≡ chain) × IsBelow ids before k) (link chain before)
 
--- the ids in slots are distinct and linked in their chains, of which there are no fewer than slots
+-- the ids in slots are distinct and linked in their chains, whose heads are no fewer than slots
 pub record AreChains (chain_of : ℕ → ℕ) (heads followers ids : List (Option ℕ)) : Type 0 where
   pub inside : (k : ℕ) → chain_of k < length heads
   pub linked : AreLinked ids chain_of (length heads) (link_at heads followers)
@@ -69,8 +69,8 @@ pub record AreChains (chain_of : ℕ → ℕ) (heads followers ids : List (Optio
 abbrev pub AreKnown : Eras → List (Option ℕ) → Type 0
 AreKnown eras ids = (slot k : ℕ) → id_at ids slot ≡ Some k → k ≤ eras.latest
 
--- the chunks in slots are found: each id is in the chain that it got when it was new, each slot can have a follower, and there are no fewer
--- chains than slots
+-- the chunks in slots are found: each id is in the chain that it got when it was new, each slot can have a follower, there are no fewer
+-- chains than slots, and each chain has a head
 pub record AreFound (eras : Eras) (heads followers : List (Option ℕ)) (chunks : List (Option LinkedChunk)) : Type 0 where
   pub chained : AreChains (own_chain eras) heads followers (ids_of chunks (length followers))
   pub known : AreKnown eras (ids_of chunks (length followers))
@@ -78,6 +78,10 @@ pub record AreFound (eras : Eras) (heads followers : List (Option ℕ)) (chunks 
   pub headed : 2 ^ newest eras ≤ length heads
   pub eras_few : newest eras < 33
   pub enough : length chunks ≤ length followers
+
+-- how many heads there are once so many are asked for: where there are fewer, a quarter comes at least
+abbrev pub heads_for : (heads count : ℕ) → ℕ
+heads_for heads count = if nat_le count heads then heads else max count (heads + heads / 4)
 
 -- chunks that were found are found still
 abbrev pub KeepsFound : ChunkIds → ChunkIds → Type 0

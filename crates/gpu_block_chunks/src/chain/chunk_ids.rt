@@ -5,7 +5,7 @@ ghost use Rattle.std.specs.Prelude.{◌≡◌, ◌≢◌, ◌+◌, ◌*◌, ◌^
 ghost use Rattle.gpu_rows.specs.Rows.{row_count};
 ghost use Rattle.gpu_block_chunks.specs.Eras.{newest, own_chain};
 ghost use Rattle.gpu_block_chunks.specs.Slots.{chunk_at};
-ghost use Rattle.gpu_block_chunks.specs.ChunkIds.{slot_of, id_at, id_of, ids_of, link_at, AreChains, AreFound, KeepsFound, IsOf, IsPlace, IsAbove, NoneAbove, ChangesLink, PutsBehind};
+ghost use Rattle.gpu_block_chunks.specs.ChunkIds.{heads_for, slot_of, id_at, id_of, ids_of, link_at, AreChains, AreFound, KeepsFound, IsOf, IsPlace, IsAbove, NoneAbove, ChangesLink, PutsBehind};
 
 use super::eras::Eras;
 use super::slot_link::SlotLink;
@@ -18,7 +18,7 @@ const MOST: usize = (1 << 32) - 1;
 
 /// The chains of the ids of chunks in slots: the slot to which each head leads, and the one that follows each slot in its chain. The follower
 /// of a slot without a chunk is of no chain. There are no fewer chains than slots, so that chains are short, and heads for the next era are
-/// made before it begins, so that no call makes many.
+/// made before it begins: a quarter of those that are there at a time, unless more are asked for.
 #[derive(Drop)]
 pub struct ChunkIds {
     heads: Vec<SlotLink>,
@@ -242,11 +242,14 @@ impl ChunkIds {
         set_follower(&mut self.heads, &mut self.followers, chain, before, next);
     }
 
-    /// Makes so many heads at least, of which the new ones lead to no slot. A refusal changes none.
+    /// Makes so many heads at least, of which the new ones lead to no slot; where it makes any, a quarter of those that are there. A refusal
+    /// changes none.
     fn add_heads_to(&mut self, count: usize) -> Result<(), AllocError>
         requires { count < 2 ^ 33 }
         ensures found { KeepsFound self.old self.new }
-        ensures enough { OnOk result (count ≤ length self.new.heads.items) }
+        ensures enough { OnOk result (length self.new.heads.items
+            ≡ heads_for (length self.old.heads.items) count) }
+        ensures refused { OnErr result (self.new.heads.items ≡ self.old.heads.items) }
         ensures eras { self.new.eras ≡ self.old.eras }
         ensures followers { self.new.followers.items ≡ self.old.followers.items }
     {
@@ -266,6 +269,7 @@ impl ChunkIds {
         ensures found { KeepsFound self.old self.new }
         ensures newest { newest self.new.eras < 33 }
         ensures enough { OnOk result (count ≤ 2 ^ newest self.new.eras) }
+        ensures few { 2 ^ newest self.new.eras ≤ max (2 ^ newest self.old.eras) (2 * count) }
         ensures followers { self.new.followers.items ≡ self.old.followers.items }
         ensures latest { self.new.eras.latest ≡ self.old.eras.latest }
     {

@@ -65,7 +65,7 @@ impl Eras {
             → own_chain self.new k ≡ own_chain self.old k }
         ensures new { OnOk result ((k : ℕ) → self.old.latest < k
             → own_chain self.new k ≡ k % 2 ^ newest self.new) }
-        ensures refused { OnErr result (newest self.new ≡ newest self.old) }
+        ensures refused { OnErr result (self.new.since.items ≡ self.old.since.items) }
     {
         self.since.reserve(1)?;
         self.since.push_reserved(self.latest);

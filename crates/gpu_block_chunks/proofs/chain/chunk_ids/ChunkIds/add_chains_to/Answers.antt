@@ -35,6 +35,7 @@ loop-self-preserved c =
           later_found loop.eras c.begin.new.self loop.heads.items loop.followers.items chunks (c.loop-self.invariant.found chunks found) (omega arith) (omega arith) (headed c)
           c.begin.ensures.latest c.begin.ensures.kept;
       few = omega arith;
+      short = omega (arith, ap (λ (n : ℕ). 2 ^ n) next, doubled (newest loop.eras));
       heads = c.loop-self.invariant.heads;
       followers = c.loop-self.invariant.followers;
       latest = c.begin.ensures.latest ∙ c.loop-self.invariant.latest;
@@ -44,7 +45,7 @@ pub returns-in_err-begin-clause-found : goal.returns-in_err-begin-clause-found
 returns-in_err-begin-clause-found c = λ chunks found.
     let loop = c.loop-self.self in
     let had = c.loop-self.invariant.found chunks found in
-    let same = c.in_err-begin.ensures.refused in
+    let same = ap length c.in_err-begin.ensures.refused in
     let few = had.eras_few in
     let headed : 2 ^ newest c.begin.new.self ≤ length loop.heads.items = omega (arith, ap (λ (n : ℕ). 2 ^ n) same, had.headed) in
     later_found loop.eras c.begin.new.self loop.heads.items loop.followers.items chunks had (omega arith) (omega arith) headed c.begin.ensures.latest c.begin.ensures.kept
