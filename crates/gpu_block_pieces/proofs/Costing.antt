@@ -16,7 +16,7 @@ use Rattle.gpu_values.specs.declared.allocation_type.AllocationType.{AllocationT
 use Rattle.gpu_values.specs.declared.allocation_type.AllocationType.TheVariants.{Free, Linear}
 use Rattle.gpu_block_pieces.specs.FreeList.{Extent, FreeList}
 use Rattle.gpu_block_pieces.specs.Request.{Request, request}
-use Rattle.gpu_block_pieces.specs.Place.{Fits, IsBestFit}
+use Rattle.gpu_block_pieces.specs.Place.{RequestFits, IsBestFit}
 use Rattle.gpu_cost.specs.Cost.{Counts, counts_of, digits, LooksUp, LooksUpBetween}
 use Rattle.gpu_block_chunks.specs.ChunkList.{IsFree, Covers}
 use Rattle.gpu_block_pieces.specs.Chunks.{NotBothFree, NoneTouch, AreChunks, NoneFits, extents_of, gaps_of, extent, free_list_of}
@@ -165,18 +165,18 @@ module _ (cs : List Chunk) (size k counter : ℕ) (w : Wanted) (text : List ℕ)
       (chosen_of_best cs size counter w text are.covers are.none_touch piece (chosen_at cs w f h) h.best) in
       (chosen_once v r h.best.fits.chunk.start s (h.best.fits.chunk.start + h.best.fits.chunk.size) e f.offset o mine q).offsets
 
-  best_fits : (f : Found) → IsChosen cs w f → (s : ℕ) × (e : ℕ) × (o : ℕ) × Fits v r s e o
+  best_fits : (f : Found) → IsChosen cs w f → (s : ℕ) × (e : ℕ) × (o : ℕ) × RequestFits v r s e o
   best_fits f h =
       let mine = subst (λ x. IsBestFit x r h.best.fits.chunk.start (h.best.fits.chunk.start + h.best.fits.chunk.size) f.offset) view
       (chosen_of_best cs size counter w text are.covers are.none_touch piece (chosen_at cs w f h) h.best) in
       (h.best.fits.chunk.start, h.best.fits.chunk.start + h.best.fits.chunk.size, f.offset, mine.fits)
 
-  no_fits : NoneFits cs w (length cs) → (s e o : ℕ) → Fits v r s e o → ⊥
-  no_fits none = subst (λ x. (s e o : ℕ) → Fits x r s e o → ⊥) view (none_of_chunks cs size counter w text are.covers are.none_touch piece none)
+  no_fits : NoneFits cs w (length cs) → (s e o : ℕ) → RequestFits v r s e o → ⊥
+  no_fits none = subst (λ x. (s e o : ℕ) → RequestFits x r s e o → ⊥) view (none_of_chunks cs size counter w text are.covers are.none_touch piece none)
 
   tests_are : (o : Option Found) (old new : Cost) → MatchOption o (NoneFits cs w (length cs)) (λ f. IsChosen cs w f) → new.tests ≡ old.tests + tested w.size o (gaps_between Free cs Free)
       → ((s e f : ℕ) → IsBestFit v r s e f → new.tests ≡ old.tests + count_by (is_tried_span w.size s e) (gap_spans v))
-      × (((s e f : ℕ) → Fits v r s e f → ⊥) → new.tests ≡ old.tests + count_by (is_long_span w.size) (gap_spans v))
+      × (((s e f : ℕ) → RequestFits v r s e f → ⊥) → new.tests ≡ old.tests + count_by (is_long_span w.size) (gap_spans v))
   tests_are None old new h t = (
     λ s e f q. absurd (no_fits h s e f q.fits),
     λ none. t ∙ ap (λ (n : ℕ). old.tests + n) (counted (is_long_span w.size)),
@@ -205,7 +205,7 @@ module _ (cs : List Chunk) (size k counter : ℕ) (w : Wanted) (text : List ℕ)
       let le = t.whole f refl (omega arith) in
       omega arith
 
-  none_of : (o : Option Found) (searched after : Cost) → IsFound o → Taking w o searched after → ((s e p : ℕ) → Fits v r s e p → ⊥) → after.lookups ≡ searched.lookups
+  none_of : (o : Option Found) (searched after : Cost) → IsFound o → Taking w o searched after → ((s e p : ℕ) → RequestFits v r s e p → ⊥) → after.lookups ≡ searched.lookups
   none_of None searched after h t none = t.none refl
   none_of (Some f) searched after h t none = (let b = best_fits f h in absurd (none b.0 b.1 b.2 b.3))
 

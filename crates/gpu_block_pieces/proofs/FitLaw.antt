@@ -10,7 +10,7 @@ use Rattle.gpu_values.specs.declared.error.AllocationError.{AllocationError}
 use Rattle.gpu_values.specs.declared.error.AllocationError.TheVariants as errors
 use Rattle.gpu_block_pieces.specs.FreeList.{Extent, FreeList, IsGap}
 use Rattle.gpu_block_pieces.specs.Request.{Request}
-use Rattle.gpu_block_pieces.specs.Place.{page, Fits, IsOffsetIn, OtherEnds}
+use Rattle.gpu_block_pieces.specs.Place.{page, RequestFits, IsOffsetIn, OtherEnds}
 use Rattle.gpu_block_pieces.specs.BlockRefusal.{IsAllocateRefusal}
 use Rattle.gpu_block_pieces.specs.Laws.{IsSound, IsLongEnough, IsForChunkIds}
 use Rattle.gpu_block_pieces.proofs.Pages.{next_up, first_here, first_next, offset_some}
@@ -105,7 +105,7 @@ page_step g x e pos le =
     omega arith
 
 fits_at : (b : FreeList) (r : Request) (s e o : ℕ) → IsPowerOfTwo b.granularity → IsPowerOfTwo r.alignment → 0 < r.size → IsGap b s e → IsLongEnough b r s e → IsOffsetIn b.granularity r.alignment
-    (OtherEnds b r.kind s) s o → o < s + max r.alignment b.granularity → Fits b r s e o
+    (OtherEnds b r.kind s) s o → o < s + max r.alignment b.granularity → RequestFits b r s e o
 fits_at b r s e o pg pa some gap long begins near =
     let pos = power_positive b.granularity pg in
     let len = gap.nonempty in
@@ -118,7 +118,7 @@ fits_at b r s e o pg pa some gap long begins near =
       };
     }
 
-pub fit_law : (b : FreeList) (r : Request) (s e : ℕ) → IsSound b → IsPowerOfTwo b.granularity → IsPowerOfTwo r.alignment → 0 < r.size → IsGap b s e → IsLongEnough b r s e → (o : ℕ) × Fits b r s e o
+pub fit_law : (b : FreeList) (r : Request) (s e : ℕ) → IsSound b → IsPowerOfTwo b.granularity → IsPowerOfTwo r.alignment → 0 < r.size → IsGap b s e → IsLongEnough b r s e → (o : ℕ) × RequestFits b r s e o
 fit_law b r s e sound pg pa some gap long =
     let g = b.granularity in let a = r.alignment in
     let gp = power_positive g pg in

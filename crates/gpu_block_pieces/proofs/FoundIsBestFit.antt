@@ -6,7 +6,7 @@ use Rattle.gpu_block_pieces.specs.declared.place.Wanted.{Wanted}
 use Rattle.gpu_block_pieces.specs.Chunks.{FoundAt}
 use Rattle.gpu_values.specs.declared.allocation_type.AllocationType.{AllocationType}
 use Rattle.gpu_values.specs.declared.allocation_type.AllocationType.TheVariants.{Free, Linear, NonLinear}
-use Rattle.gpu_block_pieces.specs.Place.{OtherEnds, OtherStarts, FitsBetween, Fits, IsBestFit}
+use Rattle.gpu_block_pieces.specs.Place.{OtherEnds, OtherStarts, FitsBetween, RequestFits, IsBestFit}
 use Rattle.gpu_block_chunks.specs.ChunkList.{IsFree, Covers}
 use Rattle.gpu_block_pieces.specs.Chunks.{NoneTouch, last_kind, first_kind, Differ, extent, free_list_of, FitsAt, IsBestOf, NoneFits, size_at}
 use Rattle.gpu_block_pieces.proofs.Tiling.{Neighbours, around, Covers-le, last_kind-push, size_at-split}
@@ -137,7 +137,7 @@ FitsBetween-same g a n L R L' R' s e o to back right f =
     }
 
 module _ (cs : List Chunk) (size n : ℕ) (w : Wanted) (name : List ℕ) (covers : Covers cs 0 size) (touch : NoneTouch Linear cs) (piece : w.kind ≢ Free) where
-  pub fits_of_chunk : (i o : ℕ) → (f : FitsAt cs w i o) → Fits (free_list_of size w.granularity n cs) (record { size = w.size; alignment = w.alignment; kind = w.kind; name = name }) f.chunk.start
+  pub fits_of_chunk : (i o : ℕ) → (f : FitsAt cs w i o) → RequestFits (free_list_of size w.granularity n cs) (record { size = w.size; alignment = w.alignment; kind = w.kind; name = name }) f.chunk.start
       (f.chunk.start + f.chunk.size) o
   fits_of_chunk i o f =
       let p = placed_at cs size f.front f.chunk f.back f.split covers touch in
@@ -152,7 +152,7 @@ module _ (cs : List Chunk) (size n : ℕ) (w : Wanted) (name : List ℕ) (covers
             f.between;
       }
 
-  pub chunk_of_fits : (s e o : ℕ) → Fits (free_list_of size w.granularity n cs) (record { size = w.size; alignment = w.alignment; kind = w.kind; name = name }) s e o → (c : FreeChunk cs s e) × FitsAt
+  pub chunk_of_fits : (s e o : ℕ) → RequestFits (free_list_of size w.granularity n cs) (record { size = w.size; alignment = w.alignment; kind = w.kind; name = name }) s e o → (c : FreeChunk cs s e) × FitsAt
       cs w (length c.front) o
   chunk_of_fits s e o f =
       let c = chunk_of_gap cs size w.granularity n s e covers touch f.gap in
@@ -177,7 +177,7 @@ module _ (cs : List Chunk) (size n : ℕ) (w : Wanted) (name : List ℕ) (covers
         },
       )
 
-  pub none_of_chunks : NoneFits cs w (length cs) → (s e o : ℕ) → Fits (free_list_of size w.granularity n cs) (record { size = w.size; alignment = w.alignment; kind = w.kind; name = name }) s e o → ⊥
+  pub none_of_chunks : NoneFits cs w (length cs) → (s e o : ℕ) → RequestFits (free_list_of size w.granularity n cs) (record { size = w.size; alignment = w.alignment; kind = w.kind; name = name }) s e o → ⊥
   none_of_chunks none s e o f =
       let c = chunk_of_fits s e o f in
       let len : length cs ≡ length c.0.front + suc (length c.0.back) = ap length c.0.split ∙ length-append c.0.front (c.0.chunk ∷ c.0.back) in

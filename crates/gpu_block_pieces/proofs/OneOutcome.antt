@@ -5,7 +5,7 @@ use Rattle.std.proofs.lemmas.Bool.{cases_lt}
 use Rattle.gpu_block_pieces.specs.FreeList.{Extent, FreeList, IsGap}
 use Rattle.gpu_block_pieces.specs.Request.{Request}
 use Rattle.gpu_block_pieces.specs.Changes.{Takes, Releases, with_extent, without_extent, with_gap, without_gap, moved_gap}
-use Rattle.gpu_block_pieces.specs.Place.{Fits, IsBestFit, HasNoPlace}
+use Rattle.gpu_block_pieces.specs.Place.{RequestFits, IsBestFit, HasNoPlace}
 use Rattle.gpu_block_pieces.specs.Laws.{IsSound}
 
 pub record SamePlace (s s' e e' o o' : ℕ) : Type 0 where
@@ -21,7 +21,7 @@ chosen_once b r s s' e e' o o' c d =
       | inl x ↦ elim (d.best s e o c.fits) [ inl y ↦ absurd (omega arith) | inr y ↦ (let y0 = y.0 in absurd (omega arith)) ]
       | inr x ↦ (let x0 = x.0 in let x1 = x.1 in elim (d.best s e o c.fits) [ inl y ↦ absurd (omega arith) | inr y ↦ (let y0 = y.0 in let y1 = y.1 in (omega arith, omega arith)) ])
     ] in
-    let other : Fits b r s e o' = rw (places.0, places.1) d.fits in
+    let other : RequestFits b r s e o' = rw (places.0, places.1) d.fits in
     let m = c.fits.between.begins.least o' other.between.begins.begins in
     let n = other.between.begins.least o c.fits.between.begins.begins in
     record { starts = places.0; ends = places.1; offsets = omega arith }

@@ -9,7 +9,7 @@ use Rattle.gpu_values.specs.declared.allocation_type.AllocationType.TheVariants.
 use Rattle.gpu_block_pieces.specs.FreeList.{Extent, FreeList}
 use Rattle.gpu_block_pieces.specs.Request.{Request}
 use Rattle.gpu_block_pieces.specs.Changes.{Takes, with_extent, moved_gap, without_gap}
-use Rattle.gpu_block_pieces.specs.Place.{IsBestFit, Fits, HasNoPlace}
+use Rattle.gpu_block_pieces.specs.Place.{IsBestFit, RequestFits, HasNoPlace}
 use Rattle.gpu_block_pieces.specs.Request.{request}
 use Rattle.std.proofs.lemmas.Bool.{cases_lt, false≢true}
 use Rattle.gpu_block_chunks.specs.ChunkList.{IsFree, filled_chunk}
@@ -153,7 +153,7 @@ view_at size g counter cs v e k h = ap (λ y. free_list_of size y counter cs) (h
 pub no_place_none : (cs : List Chunk) (size counter : ℕ) (w : Wanted) (v : FreeList) (text : List ℕ) → AreChunks cs size counter → w.kind ≢ Free → free_list_of size w.granularity counter cs ≡ v →
     NoneFits cs w (length cs) → HasNoPlace v (request w.size w.alignment w.kind text)
 no_place_none cs size counter w v text are piece e none =
-    inl (subst (λ b. (s e' o : ℕ) → Fits b (request w.size w.alignment w.kind text) s e' o → ⊥) e (none_of_chunks cs size counter w text are.covers are.none_touch piece none))
+    inl (subst (λ b. (s e' o : ℕ) → RequestFits b (request w.size w.alignment w.kind text) s e' o → ⊥) e (none_of_chunks cs size counter w text are.covers are.none_touch piece none))
 
 pub no_place_counter : (cs : List Chunk) (size counter : ℕ) (w : Wanted) (v : FreeList) (text : List ℕ) (f : FoundAt) → AreChunks cs size counter → w.kind ≢ Free → free_list_of size w.granularity
     counter cs ≡ v → (b : IsBestOf cs w (length cs) f) → f.offset + w.size < b.fits.chunk.start + b.fits.chunk.size → counter ≡ 2 ^ 64 - 1 → HasNoPlace v (request w.size w.alignment w.kind text)

@@ -7,7 +7,7 @@ use Rattle.gpu_values.specs.declared.allocation_type.AllocationType.{AllocationT
 use Rattle.gpu_values.specs.declared.allocation_type.AllocationType.TheVariants.{Free, Linear, NonLinear}
 use Rattle.gpu_block_pieces.specs.FreeList.{Extent, FreeList}
 use Rattle.gpu_block_pieces.specs.Request.{Request}
-use Rattle.gpu_block_pieces.specs.Place.{page, Fits}
+use Rattle.gpu_block_pieces.specs.Place.{page, RequestFits}
 use Rattle.gpu_block_pieces.specs.Changes.{placed, Takes, Releases}
 use Rattle.gpu_block_pieces.specs.Laws.{IsSound, IsPageSeparated}
 use Rattle.gpu_block_pieces.proofs.Pages.{page_mono}
@@ -44,7 +44,7 @@ within_of b x s h = All-contains (λ y. (y.start ≤ y.offset) × (y.offset < y.
 
 -- ---- a piece at o in the gap from s to e, and an extent of another kind on either side
 
-module _ (b : FreeList) (r : Request) (s e o : ℕ) (pos : 0 < b.granularity) (some : 0 < r.size) (sound : IsSound b) (apart : IsPageSeparated b) (fits : Fits b r s e o) where
+module _ (b : FreeList) (r : Request) (s e o : ℕ) (pos : 0 < b.granularity) (some : 0 < r.size) (sound : IsSound b) (apart : IsPageSeparated b) (fits : RequestFits b r s e o) where
   abbrev g : ℕ
   g = b.granularity
 

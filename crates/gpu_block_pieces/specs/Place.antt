@@ -34,16 +34,16 @@ pub record FitsBetween (granularity alignment size : ℕ) (Left Right : Type 0) 
   pub apart : Right → page granularity (offset + size - 1) ≢ page granularity end
 
 -- the request fits in the gap [start, end), at `offset`
-pub record Fits (b : FreeList) (r : Request) (start end offset : ℕ) : Type 0 where
+pub record RequestFits (b : FreeList) (r : Request) (start end offset : ℕ) : Type 0 where
   pub gap : IsGap b start end
   pub between : FitsBetween b.granularity r.alignment r.size (OtherEnds b r.kind start) (OtherStarts b r.kind end) start end offset
 
 -- the best fit: the shortest gap in which the request fits, and of equal ones the lowest
 pub record IsBestFit (b : FreeList) (r : Request) (start end offset : ℕ) : Type 0 where
-  pub fits : Fits b r start end offset
-  pub best : (s e o : ℕ) → Fits b r s e o → (end - start < e - s) ⊎ ((end - start ≡ e - s) × (start ≤ s))
+  pub fits : RequestFits b r start end offset
+  pub best : (s e o : ℕ) → RequestFits b r s e o → (end - start < e - s) ⊎ ((end - start ≡ e - s) × (start ≤ s))
 
 -- no gap fits, or the best one would keep a rest, and the last number is given out
 abbrev pub HasNoPlace : FreeList → Request → Type 0
 HasNoPlace b r =
-    ((s e o : ℕ) → Fits b r s e o → ⊥) ⊎ ((s : ℕ) × (e : ℕ) × (o : ℕ) × IsBestFit b r s e o × (o + r.size < e) × (b.counter ≡ 2 ^ 64 - 1))
+    ((s e o : ℕ) → RequestFits b r s e o → ⊥) ⊎ ((s : ℕ) × (e : ℕ) × (o : ℕ) × IsBestFit b r s e o × (o + r.size < e) × (b.counter ≡ 2 ^ 64 - 1))

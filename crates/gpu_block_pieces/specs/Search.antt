@@ -3,7 +3,7 @@ use Rattle.std.specs.Prelude.{◌≡◌, ℕ, ◌+◌, ◌-◌, ◌≤◌, nat_l
 use Rattle.std.specs.List.{count_by}
 use Rattle.gpu_block_pieces.specs.FreeList.{Extent, FreeList}
 use Rattle.gpu_block_pieces.specs.Request.{Request}
-use Rattle.gpu_block_pieces.specs.Place.{Fits, IsBestFit}
+use Rattle.gpu_block_pieces.specs.Place.{RequestFits, IsBestFit}
 use Rattle.gpu_cost.specs.Cost.{Counts, digits}
 
 -- where the gap that begins at `start` ends: at the next extent, or at the block's end
@@ -29,7 +29,7 @@ pub record IsSearch (b : FreeList) (r : Request) (old new : Counts) : Type 0 whe
   pub rises : old.comparisons ≤ new.comparisons
   pub compared_to : new.comparisons ≤ old.comparisons + digits (length b.gap_chunk_ids)
   pub chosen : (start end offset : ℕ) → IsBestFit b r start end offset → new.tests ≡ old.tests + count_by (is_tried_span r.size start end) (gap_spans b)
-  pub none : ((start end offset : ℕ) → Fits b r start end offset → ⊥) → (new.tests ≡ old.tests + count_by (is_long_span r.size) (gap_spans b)) × (new.lookups ≡ old.lookups)
+  pub none : ((start end offset : ℕ) → RequestFits b r start end offset → ⊥) → (new.tests ≡ old.tests + count_by (is_long_span r.size) (gap_spans b)) × (new.lookups ≡ old.lookups)
   pub lookups : (old.lookups ≤ new.lookups) × (new.lookups ≤ old.lookups + 4)
   pub whole : (start end offset : ℕ) → IsBestFit b r start end offset → offset + r.size ≡ end → new.lookups ≤ old.lookups + 1
 

@@ -5,7 +5,7 @@ ghost use Rattle.std.specs.Int.{IsPowerOfTwo};
 ghost use Rattle.gpu_block_pieces.specs.FreeList.{Extent, FreeList, SomeExtent, IsGap};
 ghost use Rattle.gpu_block_pieces.specs.Request.{Request};
 ghost use Rattle.gpu_block_pieces.specs.Changes.{Takes, Releases};
-ghost use Rattle.gpu_block_pieces.specs.Place.{Fits, HasNoPlace, page};
+ghost use Rattle.gpu_block_pieces.specs.Place.{RequestFits, HasNoPlace, page};
 ghost use Rattle.gpu_block_pieces.specs.Laws.{IsSound, IsPageSeparated, IsLongEnough, IsCovered};
 
 /// A take has one outcome.
@@ -36,7 +36,7 @@ pub fn empty_block_has_place()
 pub fn long_gap_fits()
     ensures { (b : FreeList) (r : Request) (s e : ℕ) → IsSound b → IsPowerOfTwo b.granularity
         → IsPowerOfTwo r.alignment → 0 < r.size → IsGap b s e → IsLongEnough b r s e
-        → (o : ℕ) × Fits b r s e o }
+        → (o : ℕ) × RequestFits b r s e o }
 {}
 
 /// A take keeps every live piece, and adds one under a number that no live piece has.

@@ -1,5 +1,6 @@
-// A block that is cut into pieces: how a place is found for one, and how it is taken, given back, renamed and read. Whatever is
-// looked at for that is counted, and no module but `queries` can begin a counter.
+// A block that is cut into pieces: how a place is found for one, and how it is taken, given back, renamed and read. What is looked at
+// for that is counted where it is looked at (`compare_near` of gpu_block_gaps, `node_at` of gpu_block_chunks): that each look there is
+// counted is seen by reading; no other module can look, and none but `queries` can begin a counter.
 #![tactic(auto)]
 
 mod chunks;

@@ -102,8 +102,8 @@ Reporting s replies.Busy = ⊥
 Reporting s replies.Unbound = ⊥
 
 -- a command, its reply, and the state that it leaves; the block is there already
-abbrev pub Serves : State → Command → Reply → State → Type 0
-Serves old (commands.Block side min max count granularity) reply new = (reply ≡ replies.Busy) × (new ≡ old)
-Serves old (commands.Allocate key size alignment kind name) reply new = Allocating old key (request size alignment (type_of_kind kind) (string_bytes name)) reply new
-Serves old (commands.Free key) reply new = Freeing old key reply new
-Serves old commands.Report reply new = Reporting old reply × (new ≡ old)
+abbrev pub SessionServes : State → Command → Reply → State → Type 0
+SessionServes old (commands.Block side min max count granularity) reply new = (reply ≡ replies.Busy) × (new ≡ old)
+SessionServes old (commands.Allocate key size alignment kind name) reply new = Allocating old key (request size alignment (type_of_kind kind) (string_bytes name)) reply new
+SessionServes old (commands.Free key) reply new = Freeing old key reply new
+SessionServes old commands.Report reply new = Reporting old reply × (new ≡ old)

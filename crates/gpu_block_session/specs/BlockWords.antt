@@ -28,16 +28,16 @@ pub record IsPowerOfTwo (n : ℕ) : Type 0 where
   pub one_bit : IsTrue (is_power_of_two n)
 
 -- what a command's numbers and names may be
-abbrev pub Fits : Command → Type 0
-Fits (Block side min max count granularity) = (min < 2 ^ 64) × (max < 2 ^ 64) × (count < 2 ^ 64) × (granularity < 2 ^ 64) × IsPowerOfTwo granularity
-Fits (Allocate key size alignment kind name) = (key < 2 ^ 64) × (size < 2 ^ 64) × (alignment < 2 ^ 64) × IsName (string_bytes name)
-Fits (Free key) = key < 2 ^ 64
-Fits Report = Unit {0}
+abbrev pub CommandFits : Command → Type 0
+CommandFits (Block side min max count granularity) = (min < 2 ^ 64) × (max < 2 ^ 64) × (count < 2 ^ 64) × (granularity < 2 ^ 64) × IsPowerOfTwo granularity
+CommandFits (Allocate key size alignment kind name) = (key < 2 ^ 64) × (size < 2 ^ 64) × (alignment < 2 ^ 64) × IsName (string_bytes name)
+CommandFits (Free key) = key < 2 ^ 64
+CommandFits Report = Unit {0}
 
 -- these words are the command's
 pub record Spells (line : List (List ℕ)) (c : Command) : Type 0 where
   pub is : line ≡ words c
-  pub fits : Fits c
+  pub fits : CommandFits c
 
 -- the words are this command's, or no command's
 abbrev pub Says : List (List ℕ) → Option Command → Type 0

@@ -21,13 +21,13 @@ pub enum BlockStage {
 
 impl BlockStage {
     ghost use Rattle.std.specs.Prelude.{MatchOption};
-    ghost use Rattle.gpu_block_session.specs.BlockWords.{Fits};
+    ghost use Rattle.gpu_block_session.specs.BlockWords.{CommandFits};
     ghost use Rattle.gpu_block_session.specs.BlockSort.{sort_of_command};
     ghost use Rattle.gpu_block_session.specs.BlockStage.{Admits, Step, Opening};
 
     /// Serves a command, or answers `None` to one that is out of its order.
     pub fn serve(&mut self, alloc: Global, command: &Command) -> Option<Reply>
-        requires { Fits command.now }
+        requires { CommandFits command.now }
         ensures { MatchOption result (Admits self.old (sort_of_command command.now) → ⊥)
             (λ r. Step self.old command.now r self.new) }
     {

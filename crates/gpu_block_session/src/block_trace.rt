@@ -2,7 +2,7 @@
 
 ghost use Rattle.std.specs.Prelude.{◌≡◌, ◌≤◌, ℕ, Some, None, IfOk, IfSome};
 ghost use Rattle.gpu_block_session.specs.declared.block_stage.BlockStage.TheVariants as stages;
-ghost use Rattle.gpu_block_session.specs.BlockTrace.{Serves, reply_line};
+ghost use Rattle.gpu_block_session.specs.BlockTrace.{StageServes, reply_line};
 ghost use Rattle.gpu_block_session.specs.Run.{Answers};
 
 use crate::block::Reply;
@@ -19,7 +19,7 @@ fn serve(
     mut stage: BlockStage,
     line: &[u8],
 ) -> Result<(BlockStage, Outcome<Reply>), AllocError>
-    ensures { IfOk result (λ r. Serves stage line.now r.1 r.0) }
+    ensures { IfOk result (λ r. StageServes stage line.now r.1 r.0) }
 {
     match read(alloc, line)? {
         Line::Blank => Ok((stage, Outcome::Nothing)),
@@ -32,11 +32,11 @@ fn serve(
 }
 
 impl Trace for BlockStage {
-    ghost use Rattle.gpu_block_session.specs.BlockTrace.{Serves, reply_line};
+    ghost use Rattle.gpu_block_session.specs.BlockTrace.{StageServes, reply_line};
 
     type Reply = Reply;
 
-    ghost does = { Serves };
+    ghost does = { StageServes };
 
     ghost reply_line = { reply_line };
 
@@ -67,10 +67,10 @@ pub fn run_block_trace<R: Read, W: Write, L: Log>(
 ) -> u8
     ensures status { result ≤ 2 }
     ensures whole { result ≡ 0 → IfSome (R.remaining reader.old)
-        (λ input. Answers Serves reply_line stages.Before input (W.contents writer.old)
+        (λ input. Answers StageServes reply_line stages.Before input (W.contents writer.old)
         (W.contents writer.new) None) }
     ensures bad { result ≡ 2 → IfSome (R.remaining reader.old)
-        (λ input. (n : ℕ) × Answers Serves reply_line stages.Before input
+        (λ input. (n : ℕ) × Answers StageServes reply_line stages.Before input
         (W.contents writer.old) (W.contents writer.new) (Some n)) }
 {
     run_from(log, alloc, BlockStage::Before, reader, writer)

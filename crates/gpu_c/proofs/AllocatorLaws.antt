@@ -21,7 +21,7 @@ use Rattle.gpu_pool.specs.Begin as pools
 use Rattle.gpu_machine.specs.VulkanAttempt.{AttemptsSized, IsAboveLimit, BeginsWithinHeap}
 use Rattle.gpu_machine.specs.VulkanAttempt.Attempts.{tries_whole, tries_left}
 use Rattle.gpu_machine.specs.VulkanBegin.{request_in, asking_of, Tries, Begins, BeginsIn, BeginsBy, BeginsAt, MakesAttempts, Follows, Grants, GrantsIn}
-use Rattle.gpu_machine.specs.VulkanCalls.{Frees, memory_in}
+use Rattle.gpu_machine.specs.VulkanCalls.{MachineFrees, memory_in}
 use Rattle.gpu_machine.specs.VulkanDescription.{description_of}
 use Rattle.gpu_machine.specs.VulkanSmallerBlocks.{sizes_in, sizes_left}
 use Rattle.gpu_machine.specs.declared.vulkan.answer.Allocated.{Allocated}
@@ -134,7 +134,7 @@ module _ (old new : State) (t : ℕ) (p : Piece MappedMemory) where
   freed_in None back closed h = h.0
   freed_in (Some a) back closed h = absurd (grind (arith, closed))
 
-  pub freed_lived : (back : Option (MemoryBack MappedMemory)) → old.requests.awaited ≡ None → Frees is_same_block old t p (Ok back) new → Lives old.requests.slots t p
+  pub freed_lived : (back : Option (MemoryBack MappedMemory)) → old.requests.awaited ≡ None → MachineFrees is_same_block old t p (Ok back) new → Lives old.requests.slots t p
   freed_lived back closed h = freed_in old.requests.awaited (memory_in back) closed h.frees
 
   worded_in : (o : Option Awaited) (word : ℕ) → o ≡ None → SetsWordIn is_same_block o old.requests t p word (Ok tt) new.requests → Lives old.requests.slots t p
@@ -148,7 +148,7 @@ module _ (old new : State) (t : ℕ) (p : Piece MappedMemory) where
   not_freed_in None e closed h = (h.0, h.2)
   not_freed_in (Some a) e closed h = absurd (grind (arith, closed))
 
-  pub not_freed : (e : AllocationError) → old.requests.awaited ≡ None → Frees is_same_block old t p (Err e) new → (Lives old.requests.slots t p → ⊥) × (new ≡ old)
+  pub not_freed : (e : AllocationError) → old.requests.awaited ≡ None → MachineFrees is_same_block old t p (Err e) new → (Lives old.requests.slots t p → ⊥) × (new ≡ old)
   not_freed e closed h =
       let n = not_freed_in old.requests.awaited e closed h.frees in
       (n.0, h.state ∙ ap (λ (r : RequestState MappedMemory). record old { requests = r }) n.1)

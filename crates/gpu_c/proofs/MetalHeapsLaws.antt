@@ -20,7 +20,7 @@ use Rattle.gpu_pool.specs.RequestState.{RequestState}
 use Rattle.gpu_pool.specs.declared.requests.Awaited.{Awaited}
 use Rattle.gpu_machine.specs.MetalBegin as machine
 use Rattle.gpu_machine.specs.MetalBegin.{Begins, BeginsIn, BeginsBy, Grants, refusal_told}
-use Rattle.gpu_machine.specs.MetalCalls.{Frees}
+use Rattle.gpu_machine.specs.MetalCalls.{MachineFrees}
 use Rattle.gpu_machine.specs.MetalState.{State}
 use Rattle.gpu_machine.specs.declared.metal.answer.Granted.{Granted}
 use Rattle.gpu_machine.specs.declared.metal.answer.HeapBack.{HeapBack}
@@ -120,7 +120,7 @@ module _ (old new : State) (t : ℕ) (p : Piece MTLHeap) where
   freed_in None back closed h = h.0
   freed_in (Some a) back closed h = absurd (grind (arith, closed))
 
-  pub freed_lived : (back : Option HeapBack) → old.requests.awaited ≡ None → Frees old t p (Ok back) new → Lives old.requests.slots t p
+  pub freed_lived : (back : Option HeapBack) → old.requests.awaited ≡ None → MachineFrees old t p (Ok back) new → Lives old.requests.slots t p
   freed_lived back closed h = freed_in old.requests.awaited (option_map (λ (b : HeapBack). b.heap) back) closed h.frees
 
   worded_in : (o : Option Awaited) (word : ℕ) → o ≡ None → SetsWordIn is_same_heap o old.requests t p word (Ok tt) new.requests → Lives old.requests.slots t p
@@ -134,7 +134,7 @@ module _ (old new : State) (t : ℕ) (p : Piece MTLHeap) where
   not_freed_in None e closed h = (h.0, h.2)
   not_freed_in (Some a) e closed h = absurd (grind (arith, closed))
 
-  pub not_freed : (e : AllocationError) → old.requests.awaited ≡ None → Frees old t p (Err e) new → (Lives old.requests.slots t p → ⊥) × (new ≡ old)
+  pub not_freed : (e : AllocationError) → old.requests.awaited ≡ None → MachineFrees old t p (Err e) new → (Lives old.requests.slots t p → ⊥) × (new ≡ old)
   not_freed e closed h = let n = not_freed_in old.requests.awaited e closed h.frees in (n.0, same_state old new h.set n.1)
 
   not_renamed_in : (o : Option Awaited) (name : List ℕ) (e : AllocationError) → RenamesIn is_same_heap o old.requests t p name (Err e) new.requests → new.requests ≡ old.requests

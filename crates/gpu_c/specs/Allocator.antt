@@ -19,7 +19,7 @@ use Rattle.gpu_pool.specs.Live as machine_live
 use Rattle.gpu_vulkan.specs.Setup.{properties_told, lacks_heap}
 use Rattle.gpu_vulkan.specs.declared.describe.AllocationCreateDesc.{AllocationCreateDesc}
 use Rattle.gpu_machine.specs.VulkanBegin.{Begins, Grants, Declines}
-use Rattle.gpu_machine.specs.VulkanCalls.{Frees}
+use Rattle.gpu_machine.specs.VulkanCalls.{MachineFrees}
 use Rattle.gpu_machine.specs.VulkanDescription.{Description, description_of}
 use Rattle.gpu_machine.specs.VulkanState as machine_state
 use Rattle.gpu_machine.specs.declared.vulkan.answer.Allocated.{Allocated}
@@ -29,7 +29,7 @@ use Rattle.gpu_machine.specs.declared.vulkan.answer.Progress.{Progress}
 use Rattle.gpu_machine.specs.declared.vulkan.answer.Progress.TheVariants as progress
 use Rattle.gpu_machine.specs.declared.vulkan.answer.Question.{Question}
 use Rattle.gpu_c.specs.MemoryType.{no_memory_piece}
-use Rattle.gpu_c.specs.Request.{IsServed, linear, location_named}
+use Rattle.gpu_c.specs.Request.{IsRequestServed, linear, location_named}
 use Rattle.gpu_c.specs.Status as status
 use Rattle.gpu_c.specs.Status.{refusal_status}
 use Rattle.gpu_c.specs.declared.mapped_memory.MappedMemory.{MappedMemory}
@@ -107,7 +107,7 @@ scheme_named scheme resource =
 
 -- what C asks for, as the machine is asked; a request with a size of 0, an alignment that is no power of two, an unknown number or a name that isn't UTF-8 says nothing
 pub record Says (r : AllocatorRequest) (name : List ℕ) (k : Description) : Type 0 where
-  pub served : IsServed r.size r.alignment r.kind name
+  pub served : IsRequestServed r.size r.alignment r.kind name
   pub name_is : k.name ≡ name
   pub requirements : k.requirements ≡ record { size = r.size; alignment = r.alignment; memory_type_bits = r.memory_type_bits }
   pub linear_is : k.linear ≡ (r.kind == linear)
@@ -216,7 +216,7 @@ pub record IsFreed (old : State) (p : AllocatorPiece) (out : AllocatorMemory) (n
   pub named : Names p piece
   pub back : Option (MemoryBack MappedMemory)
   pub told : out ≡ memory_told back
-  pub frees : Frees is_same_block old p.memory_type piece (Ok back) new
+  pub frees : MachineFrees is_same_block old p.memory_type piece (Ok back) new
 
 -- the piece has that name
 pub record IsRenamed (old : State) (p : AllocatorPiece) (name : List ℕ) (new : State) : Type 0 where

@@ -38,7 +38,7 @@ use Rattle.gpu_machine.specs.declared.d3d12.answer.Progress.{Progress}
 use Rattle.gpu_machine.specs.declared.d3d12.answer.Progress.TheVariants as progress
 use Rattle.gpu_machine.specs.declared.d3d12.answer.Question.{Question}
 use Rattle.gpu_c.specs.MemoryType.{no_memory_piece, memory_block}
-use Rattle.gpu_c.specs.Request.{IsServed, linear, location_named}
+use Rattle.gpu_c.specs.Request.{IsRequestServed, linear, location_named}
 use Rattle.gpu_c.specs.Status as status
 use Rattle.gpu_c.specs.Status.{refusal_status}
 use Rattle.gpu_c.specs.declared.heaps_values.HeapsCommitted.{HeapsCommitted}
@@ -93,7 +93,7 @@ AreNamed location category = IsSome (location_named location) × IsSome (categor
 
 -- a request that is served: its size isn't 0, its alignment is a power of two, its location and its category are known, and its name is UTF-8
 abbrev pub IsAsked : HeapsRequest → List ℕ → Type 0
-IsAsked r name = IsServed r.size r.alignment linear name × AreNamed r.location r.category
+IsAsked r name = IsRequestServed r.size r.alignment linear name × AreNamed r.location r.category
 
 -- what C asks for, as the machine is asked
 pub record Says (r : HeapsRequest) (name : List ℕ) (d : AllocationCreateDesc) : Type 0 where

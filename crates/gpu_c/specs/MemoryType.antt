@@ -13,7 +13,7 @@ use Rattle.gpu_core.specs.TypePrepare.{CanInstall}
 use Rattle.gpu_core.specs.TypeRelease.{has_others, ReleasesPiece, RenamesPiece, SetsWordOf}
 use Rattle.gpu_core.specs.declared.piece.Piece.{Piece}
 use Rattle.gpu_core.specs.declared.need.NeedBlock.{NeedBlock}
-use Rattle.gpu_c.specs.Request.{IsServed, kind_named}
+use Rattle.gpu_c.specs.Request.{IsRequestServed, kind_named}
 use Rattle.gpu_c.specs.declared.memory_type_values.MemoryTypeSettings.{MemoryTypeSettings}
 use Rattle.gpu_c.specs.declared.memory_type_values.MemoryRequest.{MemoryRequest}
 use Rattle.gpu_c.specs.declared.memory_type_values.MemoryPiece.{MemoryPiece}
@@ -127,12 +127,12 @@ PreparesBy true old r name out new = (out.piece ≡ no_memory_piece) × Awaits o
 -- what a request that is served results in
 pub record Prepares (old : AwaitingState) (r : MemoryRequest) (name : List ℕ) (out : MemoryPrepared) (new : AwaitingState) : Type 0 where
   pub idle : old.awaited ≡ None
-  pub served : IsServed r.size r.alignment r.kind name
+  pub served : IsRequestServed r.size r.alignment r.kind name
   pub prepares : PreparesBy out.needs_block old r name out new
 
 -- nothing is awaited, and the request is one that is served
 abbrev pub IsIdleAndServed : AwaitingState → MemoryRequest → List ℕ → Type 0
-IsIdleAndServed s r name = (s.awaited ≡ None) × IsServed r.size r.alignment r.kind name
+IsIdleAndServed s r name = (s.awaited ≡ None) × IsRequestServed r.size r.alignment r.kind name
 
 -- a block is needed with which the sum of the blocks' sizes would pass 64 bits
 pub record IsTooLarge (s : AwaitingState) (r : MemoryRequest) (name : List ℕ) : Type 0 where

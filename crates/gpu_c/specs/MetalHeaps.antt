@@ -19,7 +19,7 @@ use Rattle.gpu_metal.specs.HeapAnswer.{heap_refusal}
 use Rattle.gpu_metal.specs.MemoryKinds as kinds
 use Rattle.gpu_metal.specs.declared.describe.AllocationCreateDesc.{AllocationCreateDesc}
 use Rattle.gpu_machine.specs.MetalBegin.{Begins, Grants}
-use Rattle.gpu_machine.specs.MetalCalls.{Frees}
+use Rattle.gpu_machine.specs.MetalCalls.{MachineFrees}
 use Rattle.gpu_machine.specs.MetalState.{State}
 use Rattle.gpu_machine.specs.declared.metal.answer.Allocated.{Allocated}
 use Rattle.gpu_machine.specs.declared.metal.answer.Granted.{Granted}
@@ -28,7 +28,7 @@ use Rattle.gpu_machine.specs.declared.metal.answer.Progress.{Progress}
 use Rattle.gpu_machine.specs.declared.metal.answer.Progress.TheVariants as progress
 use Rattle.gpu_machine.specs.declared.metal.answer.Question.{Question}
 use Rattle.gpu_c.specs.MemoryType.{no_memory_piece}
-use Rattle.gpu_c.specs.Request.{IsServed, linear, location_named}
+use Rattle.gpu_c.specs.Request.{IsRequestServed, linear, location_named}
 use Rattle.gpu_c.specs.Status as status
 use Rattle.gpu_c.specs.Status.{refusal_status}
 use Rattle.gpu_c.specs.declared.heaps_values.HeapsPiece.{HeapsPiece}
@@ -63,7 +63,7 @@ pub record IsFresh (s : MetalHeapsSettings) (new : State) : Type 0 where
 
 -- a request that is served: its size isn't 0, its alignment is a power of two, its location is known, and its name is UTF-8
 abbrev pub IsAsked : MetalHeapsRequest → List ℕ → Type 0
-IsAsked r name = IsServed r.size r.alignment linear name × IsSome (location_named r.location)
+IsAsked r name = IsRequestServed r.size r.alignment linear name × IsSome (location_named r.location)
 
 -- what C asks for, as the machine is asked
 pub record Says (r : MetalHeapsRequest) (name : List ℕ) (d : AllocationCreateDesc) : Type 0 where
@@ -184,7 +184,7 @@ pub record IsFreed (old : State) (p : HeapsPiece) (out : MetalHeapsBlock) (new :
   pub named : piece_told piece ≡ p.piece
   pub back : Option HeapBack
   pub told : out ≡ block_told back
-  pub frees : Frees old p.memory_type piece (Ok back) new
+  pub frees : MachineFrees old p.memory_type piece (Ok back) new
 
 -- the piece has that name
 pub record IsRenamed (old : State) (p : HeapsPiece) (name : List ℕ) (new : State) : Type 0 where

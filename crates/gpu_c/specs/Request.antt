@@ -14,7 +14,7 @@ abbrev pub non_linear : ℕ
 non_linear = 2
 
 -- a request that an allocator serves, by its size and alignment in bytes, its kind and its name
-pub record IsServed (size alignment kind : ℕ) (name : List ℕ) : Type 0 where
+pub record IsRequestServed (size alignment kind : ℕ) (name : List ℕ) : Type 0 where
   pub sized : 0 < size
   pub aligned : IsTrue (is_power_of_two alignment)
   pub named : (kind ≡ linear) ⊎ (kind ≡ non_linear)

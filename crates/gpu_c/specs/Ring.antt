@@ -2,7 +2,7 @@
 use Rattle.std.specs.Prelude.{◌≡◌, ℕ, ◌+◌, ◌-◌, ◌%◌, ◌^◌, ◌<◌, map, length, slice_get, Some}
 use Rattle.gpu_ring.specs.Line.{IsFull, IsTaken, Apart}
 use Rattle.gpu_ring.specs.RingState.{RingState}
-use Rattle.gpu_ring.specs.Calls.{Allocates, IsInFlight}
+use Rattle.gpu_ring.specs.Calls.{RingAllocates, IsInFlight}
 use Rattle.gpu_ring.specs.declared.ring.Frame.{Frame}
 use Rattle.gpu_ring.specs.Stretch.{stretch_of}
 use Rattle.gpu_ring.specs.declared.ring.FrameStatistics.{FrameStatistics}
@@ -22,7 +22,7 @@ IsPiece size alignment = (0 < size) × (0 < alignment)
 -- the piece was allocated, and shares no byte with any that lies in the taken ones
 pub record GainsPiece (old : RingState) (size alignment offset : ℕ) (new : RingState) : Type 0 where
   pub piece : IsPiece size alignment
-  pub allocates : Allocates old size alignment (Some offset) new
+  pub allocates : RingAllocates old size alignment (Some offset) new
   pub apart : (q m : ℕ) → 0 < m → IsTaken old.size old.tail old.taken q m → Apart (q % old.size) m offset size
 
 -- a piece of that size and alignment has no place

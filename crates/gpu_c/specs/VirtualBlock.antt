@@ -8,7 +8,7 @@ use Rattle.gpu_block.specs.Block.{Block, free_list, dedicated, extents_of, size_
 use Rattle.gpu_block.specs.Block.{HasPagesApart, IsCoveredBlock}
 use Rattle.gpu_block.specs.BlockViews.{statistics_of}
 use Rattle.gpu_block_pieces.specs.Request.{Request, request}
-use Rattle.gpu_c.specs.Request.{IsServed, kind_named}
+use Rattle.gpu_c.specs.Request.{IsRequestServed, kind_named}
 use Rattle.gpu_c.specs.declared.virtual_block_values.VirtualRequest.{VirtualRequest}
 use Rattle.gpu_c.specs.declared.virtual_block_values.VirtualPiece.{VirtualPiece}
 use Rattle.gpu_c.specs.declared.virtual_block_values.VirtualStatistics.{VirtualStatistics}
@@ -47,19 +47,19 @@ pub record IsWellFormed (b : Block) : Type 0 where
 -- a request that is served has been refused for that cause: it has no place, or host memory was refused. Where a gap is long enough for it whatever its neighbours are, lack of a place is never the
 -- cause while the block has numbers
 pub record IsRefusedFor (b : Block) (r : VirtualRequest) (name : List ℕ) (e : AllocationError) : Type 0 where
-  pub served : IsServed r.size r.alignment r.kind name
+  pub served : IsRequestServed r.size r.alignment r.kind name
   pub cause : IsAllocateRefusalIn b (asked r name) e
   pub law : IsFitLaw b (asked r name) e
 
 -- the piece was allocated
-pub record Allocates (old : Block) (r : VirtualRequest) (name : List ℕ) (piece : VirtualPiece) (new : Block) : Type 0 where
-  pub served : IsServed r.size r.alignment r.kind name
+pub record BlockAllocates (old : Block) (r : VirtualRequest) (name : List ℕ) (piece : VirtualPiece) (new : Block) : Type 0 where
+  pub served : IsRequestServed r.size r.alignment r.kind name
   pub takes : TakesIn old (asked r name) piece.offset piece.number new
   pub numbered : 0 < piece.number
   pub formed : IsWellFormed new
 
 -- the piece was freed
-pub record Frees (old : Block) (piece : VirtualPiece) (new : Block) : Type 0 where
+pub record BlockFrees (old : Block) (piece : VirtualPiece) (new : Block) : Type 0 where
   pub live : IsLivePiece old piece
   pub releases : ReleasesIn old piece.number new
   pub formed : IsWellFormed new

@@ -57,6 +57,7 @@ pub fn fresh(
 }
 
 /// Begins a request: it leads to a piece or to a question.
+#[inline(always)]
 pub fn begin(
     machine: &mut Machine<MappedMemory>,
     request: &AllocatorRequest,

@@ -30,6 +30,7 @@ fn preference_of(said: &AllocatorPreference) -> Preference
 }
 
 /// Begins a request by flags: it leads to a piece or to a question.
+#[inline(always)]
 pub fn begin_by_flags(
     machine: &mut Machine<MappedMemory>,
     request: &AllocatorRequest,

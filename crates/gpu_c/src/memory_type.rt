@@ -5,7 +5,7 @@ ghost use Rattle.std.specs.Int.{is_power_of_two};
 ghost use Rattle.gpu_core.specs.TypeState.{slot_at, capacity_of, block_number, fits_budget};
 ghost use Rattle.gpu_core.specs.TypeReport.{pieces_in, statistics_in};
 ghost use Rattle.gpu_c.specs.Status as status;
-ghost use Rattle.gpu_c.specs.Request.{IsServed};
+ghost use Rattle.gpu_c.specs.Request.{IsRequestServed};
 ghost use Rattle.gpu_c.specs.Status.{IsOneOf};
 ghost use Rattle.gpu_c.specs.MemoryType.{AwaitingState, fresh_memory_type, memory_piece, no_memory_piece, memory_block, number_if, IsLiveIn, Prepares, IsIdleAndServed, IsTooLarge, IsPastBudget, InstallsAwaited, Abandons, FreesPiece, NamesMemory, SetsWord, statistics_of, sizes_of, block_counts};
 ghost use Rattle.gpu_c.specs.Visit.{piece_view, piece_in_from, pieces_in_from, ShowsPieces, ShowsNames, ShowsName};
@@ -157,7 +157,7 @@ impl AwaitingType {
         ensures awaits_block { (result ≡ status.awaits_block) ↔ IsSome self.old.awaited }
         ensures invalid { (result ≡ status.invalid)
             ↔ (self.old.awaited ≡ None)
-            × (IsServed request.now.size request.now.alignment request.now.kind name.now → ⊥) }
+            × (IsRequestServed request.now.size request.now.alignment request.now.kind name.now → ⊥) }
         ensures host_out_of_memory { result ≡ status.host_out_of_memory
             → IsIdleAndServed self.old request.now name.now }
         ensures out_of_memory { result ≡ status.out_of_memory

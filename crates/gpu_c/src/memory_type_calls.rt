@@ -8,7 +8,7 @@ ghost use Rattle.gpu_core.specs.TypeState.{slot_at, block_number};
 ghost use Rattle.gpu_core.specs.TypeReport.{pieces_in, statistics_in};
 ghost use Rattle.gpu_c.specs.Handle.{Changes};
 ghost use Rattle.gpu_c.specs.Status as status;
-ghost use Rattle.gpu_c.specs.Request.{IsServed};
+ghost use Rattle.gpu_c.specs.Request.{IsRequestServed};
 ghost use Rattle.gpu_c.specs.Status.{IsOneOf};
 ghost use Rattle.gpu_c.specs.MemoryType.{fresh_memory_type, memory_block, number_if, IsLiveIn, Prepares, IsIdleAndServed, IsTooLarge, IsPastBudget, InstallsAwaited, Abandons, FreesPiece, NamesMemory, SetsWord, statistics_of, block_counts};
 ghost use Rattle.gpu_c.specs.Visit.{piece_view, piece_in_from, pieces_in_from, ShowsPieces, ShowsNames, ShowsName};
@@ -79,7 +79,7 @@ pub extern "C" fn pilhangko_raw_memory_type_prepare(
         ↔ IsSomeAnd memory_type.old.value (λ t. IsSome t.awaited) }
     ensures invalid { (result ≡ status.invalid)
         ↔ IsSomeAnd memory_type.old.value
-        (λ t. (t.awaited ≡ None) × (IsServed request.now.size request.now.alignment request.now.kind
+        (λ t. (t.awaited ≡ None) × (IsRequestServed request.now.size request.now.alignment request.now.kind
         name.now → ⊥)) }
     ensures host_out_of_memory { result ≡ status.host_out_of_memory
         → IsSomeAnd memory_type.old.value (λ t. IsIdleAndServed t request.now name.now) }

@@ -94,6 +94,8 @@ pub extern "C" fn pilhangko_raw_plan_sets(
     ensures gathered { result ≡ status.ok → (length sets.old ≡ length needs.now)
         × (sets.new ≡ sets_of [] (map needs_told needs.now)) }
     ensures invalid { (result ≡ status.invalid) ↔ (length sets.old ≢ length needs.now) }
+    ensures host_out_of_memory { result ≡ status.host_out_of_memory
+        → length sets.old ≡ length needs.now }
     ensures statuses { IsOneOf result (status.ok ∷ status.invalid ∷ status.host_out_of_memory
         ∷ []) }
     ensures refused { result ≢ status.ok → sets.new ≡ sets.old }

@@ -2,7 +2,7 @@
 
 ghost use Rattle.std.specs.Prelude.{◌≡◌, ◌≢◌, ◌<◌, ◌⊎◌, Some, IfSome, IfNone, MatchOption, IsTrue, IsUtf8};
 ghost use Rattle.std.specs.Int.{is_power_of_two};
-ghost use Rattle.gpu_c.specs.Request.{linear, non_linear, IsServed, kind_named, location_named};
+ghost use Rattle.gpu_c.specs.Request.{linear, non_linear, IsRequestServed, kind_named, location_named};
 
 use gpu_values::{AllocationType, MemoryLocation};
 
@@ -36,8 +36,8 @@ pub fn served<'a>(
 ) -> Option<(AllocationType, &'a str)>
     ensures kind { IfSome result (λ p. (p.0 ≡ kind_named kind) × (p.0 ≢ AllocationType.Free)) }
     ensures name { IfSome result (λ p. p.1.now ≡ name.now) }
-    ensures served { MatchOption result (IsServed size alignment kind name.now → ⊥)
-        (λ _. IsServed size alignment kind name.now) }
+    ensures served { MatchOption result (IsRequestServed size alignment kind name.now → ⊥)
+        (λ _. IsRequestServed size alignment kind name.now) }
 {
     if size == 0 {
         return None;

@@ -5,9 +5,9 @@ ghost use Rattle.std.specs.Int.NonZero.{non_zero_u64_get};
 ghost use Rattle.gpu_values.specs.declared.error.AllocationError.TheVariants.{OutOfMemory, HostOutOfMemory};
 ghost use Rattle.gpu_block.specs.Block.{extents_of};
 ghost use Rattle.gpu_c.specs.Status as status;
-ghost use Rattle.gpu_c.specs.Request.{IsServed};
+ghost use Rattle.gpu_c.specs.Request.{IsRequestServed};
 ghost use Rattle.gpu_c.specs.Status.{IsOneOf};
-ghost use Rattle.gpu_c.specs.VirtualBlock.{CanCreate, fresh_virtual_block, IsLivePiece, IsRefusedFor, Allocates, Frees, NamesPiece, SetsWord, cleared, counts_of};
+ghost use Rattle.gpu_c.specs.VirtualBlock.{CanCreate, fresh_virtual_block, IsLivePiece, IsRefusedFor, BlockAllocates, BlockFrees, NamesPiece, SetsWord, cleared, counts_of};
 ghost use Rattle.gpu_c.specs.Visit.{piece_view, piece_from, pieces_from, ShowsPieces, ShowsNames, ShowsName};
 ghost use Rattle.gpu_c.specs.declared.status.TheConstants.{OK, OUT_OF_MEMORY, INVALID, NOT_LIVE, HOST_OUT_OF_MEMORY};
 
@@ -64,9 +64,9 @@ impl VirtualBlock {
         piece: &mut VirtualPiece,
     ) -> u32
         ensures allocated { result ≡ status.ok
-            → Allocates self.old wanted.now name.now piece.new self.new }
+            → BlockAllocates self.old wanted.now name.now piece.new self.new }
         ensures invalid { (result ≡ status.invalid)
-            ↔ (IsServed wanted.now.size wanted.now.alignment wanted.now.kind name.now → ⊥) }
+            ↔ (IsRequestServed wanted.now.size wanted.now.alignment wanted.now.kind name.now → ⊥) }
         ensures out_of_memory { result ≡ status.out_of_memory
             → IsRefusedFor self.old wanted.now name.now OutOfMemory }
         ensures host_out_of_memory { result ≡ status.host_out_of_memory
@@ -112,7 +112,7 @@ impl VirtualBlock {
 
     /// Frees a piece.
     pub fn free(&mut self, piece: &VirtualPiece) -> u32
-        ensures freed { result ≡ status.ok → Frees self.old piece.now self.new }
+        ensures freed { result ≡ status.ok → BlockFrees self.old piece.now self.new }
         ensures not_live { (result ≡ status.not_live) ↔ (IsLivePiece self.old piece.now → ⊥) }
         ensures statuses { IsOneOf result (status.ok ∷ status.not_live ∷ []) }
         ensures refused { result ≢ status.ok → self.new ≡ self.old }

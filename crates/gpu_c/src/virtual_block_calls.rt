@@ -6,9 +6,9 @@ ghost use Rattle.gpu_values.specs.declared.error.AllocationError.TheVariants.{Ou
 ghost use Rattle.gpu_block.specs.Block.{extents_of};
 ghost use Rattle.gpu_c.specs.Handle.{Changes};
 ghost use Rattle.gpu_c.specs.Status as status;
-ghost use Rattle.gpu_c.specs.Request.{IsServed};
+ghost use Rattle.gpu_c.specs.Request.{IsRequestServed};
 ghost use Rattle.gpu_c.specs.Status.{IsOneOf};
-ghost use Rattle.gpu_c.specs.VirtualBlock.{CanCreate, fresh_virtual_block, IsLivePiece, IsRefusedFor, Allocates, Frees, NamesPiece, SetsWord, cleared, counts_of};
+ghost use Rattle.gpu_c.specs.VirtualBlock.{CanCreate, fresh_virtual_block, IsLivePiece, IsRefusedFor, BlockAllocates, BlockFrees, NamesPiece, SetsWord, cleared, counts_of};
 ghost use Rattle.gpu_c.specs.Visit.{piece_view, piece_from, pieces_from, ShowsPieces, ShowsNames, ShowsName};
 ghost use Rattle.gpu_c.specs.declared.status.TheConstants.{OK, OUT_OF_MEMORY, INVALID, NOT_LIVE, HOST_OUT_OF_MEMORY, NO_HANDLE, IN_USE};
 
@@ -83,10 +83,10 @@ pub extern "C" fn pilhangko_raw_virtual_block_allocate(
     piece: &mut VirtualPiece,
 ) -> u32
     ensures allocated { result ≡ status.ok → Changes block.old.value block.new.value
-        (λ old new. Allocates old request.now name.now piece.new new) }
+        (λ old new. BlockAllocates old request.now name.now piece.new new) }
     ensures no_handle { (result ≡ status.no_handle) ↔ (block.old.value ≡ None) }
     ensures invalid { (result ≡ status.invalid) ↔ IsSomeAnd block.old.value
-        (λ _. IsServed request.now.size request.now.alignment request.now.kind name.now → ⊥) }
+        (λ _. IsRequestServed request.now.size request.now.alignment request.now.kind name.now → ⊥) }
     ensures out_of_memory { result ≡ status.out_of_memory → IsSomeAnd block.old.value
         (λ b. IsRefusedFor b request.now name.now OutOfMemory) }
     ensures host_out_of_memory { result ≡ status.host_out_of_memory → IsSomeAnd block.old.value
@@ -115,7 +115,7 @@ pub extern "C" fn pilhangko_raw_virtual_block_free(
     piece: &VirtualPiece,
 ) -> u32
     ensures freed { result ≡ status.ok → Changes block.old.value block.new.value
-        (λ old new. Frees old piece.now new) }
+        (λ old new. BlockFrees old piece.now new) }
     ensures no_handle { (result ≡ status.no_handle) ↔ (block.old.value ≡ None) }
     ensures not_live { (result ≡ status.not_live)
         ↔ IsSomeAnd block.old.value (λ b. IsLivePiece b piece.now → ⊥) }

@@ -79,6 +79,7 @@ impl<H: Copy + Eq> Slots<H> {
 
     /// Allocates a piece of the highest shared block that has a place, or answers `None` where none has. The only refusal is
     /// `HostOutOfMemory`.
+    #[inline(always)]
     pub fn allocate(&mut self, request: &Request, granularity: u64) -> Result<Option<Piece<H>>>
         requires sized { 0 < request.now.size }
         requires aligned { IsTrue (is_power_of_two request.now.alignment) }

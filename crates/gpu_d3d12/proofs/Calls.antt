@@ -31,7 +31,7 @@ use Rattle.gpu_d3d12.specs.Allocate.{is_valid, request_in}
 use Rattle.gpu_d3d12.specs.Blocks.{is_same_heap}
 use Rattle.gpu_d3d12.specs.Committed.{statistics_at}
 use Rattle.gpu_d3d12.specs.Describe.{request_of}
-use Rattle.gpu_d3d12.specs.Free.{freed_of, Frees}
+use Rattle.gpu_d3d12.specs.Free.{freed_of, AllocatorFrees}
 use Rattle.gpu_pool.specs.Allocation.{piece_of, Returns, ReturnsPlace, ProposesNamed, RenamesNamed}
 use Rattle.gpu_d3d12.specs.Live.{Allocation}
 use Rattle.gpu_d3d12.specs.Reply.{Reply, error}
@@ -91,7 +91,7 @@ module _ {D : Type 0} (g : Ghosts D) where
 
   -- ---- an allocation
 
-  pub allocate_step : (d : AllocationCreateDesc) (old new : State D) (result : Result Allocation AllocationError) → allocations.Allocates g d old result new → new.committed ≡ old.committed
+  pub allocate_step : (d : AllocationCreateDesc) (old new : State D) (result : Result Allocation AllocationError) → allocations.AllocatorAllocates g d old result new → new.committed ≡ old.committed
       → IsAllocateStep g d result old new
   allocate_step d old new result a committed =
       let t = attempted d (is_valid d) (pool_of old) result (pool_of new) a in
@@ -122,7 +122,7 @@ module _ {D : Type 0} (g : Ghosts D) where
   freed_reply (Ok u) = refl
   freed_reply (Err e) = refl
 
-  pub free_step : (a : Allocation) (old new : State D) (result : Result (Unit {0}) (AllocationError × Allocation)) → Frees g a old result new → new.committed ≡ old.committed
+  pub free_step : (a : Allocation) (old new : State D) (result : Result (Unit {0}) (AllocationError × Allocation)) → AllocatorFrees g a old result new → new.committed ≡ old.committed
       → IsStep g (Free a) (freed_as result) old new
   free_step a old new result f committed = record {
     environment = nothing_met;

@@ -148,7 +148,7 @@ module _ {D : Type 0} (g : Ghosts D) (d : ResourceCreateDesc) (question : Create
         }))
 
     pub refused : (e : AllocationError) → resource_refusal placed_texts answer ≡ Some (refusal_of e) → (new : states.Pool D)
-        → pool_frees.Frees (GivesHeapBack g) is_same_heap a.memory_type_index (piece_of a) (record mid { source = between }) (Ok tt) new → IsPlacedOver g d question old (Err e) new
+        → pool_frees.PoolFrees (GivesHeapBack g) is_same_heap a.memory_type_index (piece_of a) (record mid { source = between }) (Ok tt) new → IsPlacedOver g d question old (Err e) new
     refused e why new frees =
         let is : number_or_refusal placed_texts answer ≡ Err (refusal_of e) = sym (refused_reply placed_texts answer (refusal_of e) why).0 in
         was_asked new
@@ -339,12 +339,12 @@ free_resource_step g r old new result f = record {
 -- a live placed resource was released, and its piece freed
 pub freed_placed : {D : Type 0} (g : Ghosts D) (a : Allocation) (number : ℕ) (old : states.Pool D) (between : SourceState D) → ReleasesResource g old.source number between
     → IsLive old.slots a → (answer : Result (Unit {0}) Refusal) (new : states.Pool D)
-    → pool_frees.Frees (GivesHeapBack g) is_same_heap a.memory_type_index (piece_of a) (record old { source = between }) answer new → FreesPlacedOver g a number old answer new
+    → pool_frees.PoolFrees (GivesHeapBack g) is_same_heap a.memory_type_index (piece_of a) (record old { source = between }) answer new → FreesPlacedOver g a number old answer new
 freed_placed g a number old between releases live (Ok u) new f = (between, releases, f)
 freed_placed g a number old between releases live (Err e) new f = absurd (f.0 live)
 
 -- a live piece that was freed
 pub freed_live : {D : Type 0} (g : Ghosts D) (a : Allocation) (old : states.Pool D) → IsLive old.slots a → (answer : Result (Unit {0}) Refusal) (new : states.Pool D)
-    → pool_frees.Frees (GivesHeapBack g) is_same_heap a.memory_type_index (piece_of a) old answer new → pool_frees.Frees (GivesHeapBack g) is_same_heap a.memory_type_index (piece_of a) old (Ok tt) new
+    → pool_frees.PoolFrees (GivesHeapBack g) is_same_heap a.memory_type_index (piece_of a) old answer new → pool_frees.PoolFrees (GivesHeapBack g) is_same_heap a.memory_type_index (piece_of a) old (Ok tt) new
 freed_live g a old live (Ok u) new f = f
 freed_live g a old live (Err e) new f = absurd (f.0 live)

@@ -4,11 +4,11 @@ use Rattle.std.specs.Prelude.{IsSomeAnd}
 use Rattle.gpu_values.specs.declared.memory_location.MemoryLocation.{MemoryLocation}
 use Rattle.gpu_d3d12.specs.declared.category.ResourceCategory.{ResourceCategory}
 use Rattle.gpu_d3d12.specs.declared.memory_kind.MemoryKind.{MemoryKind}
-use Rattle.gpu_d3d12.specs.MemoryKinds.{Serves, IsFirstServing}
+use Rattle.gpu_d3d12.specs.MemoryKinds.{KindServes, IsFirstServing}
 
 earlier : (location : MemoryLocation) (category : ResourceCategory) (kinds : List MemoryKind) (i : ℕ) (o : Option MemoryKind)
-    → slice_get kinds i ≡ o → IsSomeAnd o (λ k. Serves location category k)
-    → ((k : MemoryKind) → slice_get kinds i ≡ Some k → Serves location category k → ⊥) → ⊥
+    → slice_get kinds i ≡ o → IsSomeAnd o (λ k. KindServes location category k)
+    → ((k : MemoryKind) → slice_get kinds i ≡ Some k → KindServes location category k → ⊥) → ⊥
 earlier location category kinds i None at serves none = absurd serves
 earlier location category kinds i (Some k) at serves none = none k at serves
 

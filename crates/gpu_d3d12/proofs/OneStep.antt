@@ -33,7 +33,7 @@ use Rattle.gpu_d3d12.specs.declared.question.ResourceType.TheVariants as resourc
 use Rattle.gpu_d3d12.proofs.FirstServing.{one_first}
 use Rattle.gpu_pool.specs.Allocate as environments
 use Rattle.gpu_pool.specs.Allocate.{NothingMet, NoHostMemory}
-use Rattle.gpu_pool.specs.Free.{Frees}
+use Rattle.gpu_pool.specs.Free.{PoolFrees}
 use Rattle.gpu_pool.specs.Reply as replies
 use Rattle.gpu_pool.specs.State as pools
 use Rattle.gpu_pool.specs.State.{IsSoundAt, kind_at}
@@ -134,11 +134,11 @@ module _ (basis : Basis) where
       → IsCall call met y old next → (x ≡ y) × (new ≡ next)
   call_once call met x y old new next sound a b = pool.step_once (SeesQuestion basis.tier) SeesHeapFreed is_same_heap (question_decides basis.tier) given_decides kinds call met x y old new next sound a b
 
-  abbrev Allocates : AllocationCreateDesc → Bool → environments.Environment ID3D12Heap → replies.Reply ID3D12Heap → (old new : Pools) → Type 0
-  Allocates d valid met reply old new = AllocatesBy (SeesQuestion basis.tier) SeesHeapFreed SeesMade SeesReleased basis d valid met reply old new
+  abbrev StepAllocates : AllocationCreateDesc → Bool → environments.Environment ID3D12Heap → replies.Reply ID3D12Heap → (old new : Pools) → Type 0
+  StepAllocates d valid met reply old new = AllocatesBy (SeesQuestion basis.tier) SeesHeapFreed SeesMade SeesReleased basis d valid met reply old new
 
   allocate_once : (d : AllocationCreateDesc) (valid : Bool) (met : environments.Environment ID3D12Heap) (x y : replies.Reply ID3D12Heap) (old new next : Pools) → Sound old
-      → Allocates d valid met x old new → Allocates d valid met y old next → (x ≡ y) × (new ≡ next)
+      → StepAllocates d valid met x old new → StepAllocates d valid met y old next → (x ≡ y) × (new ≡ next)
   allocate_once d false met x y old new next sound a b = (a.1 ∙ sym b.1, a.2 ∙ sym b.2)
   allocate_once d true met x y old new next sound a b =
       let types : a.0 ≡ b.0 = one_first d.location d.resource_category (memory_kinds basis.tier) a.0 b.0 a.1 b.1 in
@@ -153,8 +153,8 @@ module _ (basis : Basis) where
   propose_once w d false met x y old new next sound a b = (a.1 ∙ sym b.1, a.2 ∙ sym b.2)
   propose_once w d true met x y old new next sound a b = call_once (calls.ProposeMove w.memory_type_index (piece_of w) (request_of d)) met x y old new next sound a b
 
-  frees_once : (t : ℕ) (p : Piece ID3D12Heap) (old : Pools) → Sound old → (x y : Result (Unit {0}) Refusal) (new next : Pools) → Frees SeesHeapFreed is_same_heap t p old x new
-      → Frees SeesHeapFreed is_same_heap t p old y next → (x ≡ y) × (new ≡ next)
+  frees_once : (t : ℕ) (p : Piece ID3D12Heap) (old : Pools) → Sound old → (x y : Result (Unit {0}) Refusal) (new next : Pools) → PoolFrees SeesHeapFreed is_same_heap t p old x new
+      → PoolFrees SeesHeapFreed is_same_heap t p old y next → (x ≡ y) × (new ≡ next)
   frees_once t p old sound x y new next a b = pool.frees_once kinds SeesHeapFreed given_decides is_same_heap t p old (sound t) x y new next a b
 
   of_pool_once : (P : environments.Environment ID3D12Heap → replies.Reply ID3D12Heap → (old new : Pools) → Type 0) (met : Environment) (x y : Reply) (old new next : Model)
@@ -295,7 +295,7 @@ module _ (basis : Basis) where
   placed_back_once a number old sound (Ok u) (Ok v) new next f g =
       let same = f.1 ∙ sym g.1 in
       let t = a.memory_type_index in
-      let other : Frees SeesHeapFreed is_same_heap t (piece_of a) (record old { source = f.0 }) (Ok v) next = subst (λ s. Frees SeesHeapFreed is_same_heap t (piece_of a) (record old { source = s }) (Ok v) next) (sym same) g.2 in
+      let other : PoolFrees SeesHeapFreed is_same_heap t (piece_of a) (record old { source = f.0 }) (Ok v) next = subst (λ s. PoolFrees SeesHeapFreed is_same_heap t (piece_of a) (record old { source = s }) (Ok v) next) (sym same) g.2 in
       frees_once t (piece_of a) (record old { source = f.0 }) sound (Ok u) (Ok v) new next f.2 other
   placed_back_once a number old sound (Ok u) (Err e) new next f g = absurd (g.0 f.2.0)
   placed_back_once a number old sound (Err e) (Ok u) new next f g = absurd (f.0 g.2.0)
@@ -334,7 +334,7 @@ module _ (basis : Basis) where
 
   once : (call : Call) (met : Environment) (x y : Reply) (old new next : Model) → Sound old.pool → Step basis call met x old new → Step basis call met y old next → (x ≡ y) × (new ≡ next)
   once (Allocate d) met x y old new next sound a b =
-      of_pool_once (Allocates d (is_valid d)) met x y old new next (λ r s p q. allocate_once d (is_valid d) met.pool r s old.pool new.pool next.pool sound p q) a b
+      of_pool_once (StepAllocates d (is_valid d)) met x y old new next (λ r s p q. allocate_once d (is_valid d) met.pool r s old.pool new.pool next.pool sound p q) a b
   once (Free w) met x y old new next sound a b = called_once (calls.Free w.memory_type_index (piece_of w)) met x y old new next sound a b
   once (Rename w name) met x y old new next sound a b = called_once (calls.Rename w.memory_type_index (piece_of w) name) met x y old new next sound a b
   once (ProposeMove w d) met x y old new next sound a b =

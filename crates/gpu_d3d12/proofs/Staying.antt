@@ -13,8 +13,8 @@ use Rattle.gpu_d3d12.specs.declared.question.ResourceCreateDesc.{ResourceCreateD
 use Rattle.gpu_d3d12.specs.declared.question.CreateCall.{CreateCall}
 use Rattle.gpu_values.specs.declared.error.AllocationError.{AllocationError}
 use Rattle.gpu_pool.specs.Allocate as environments
-use Rattle.gpu_pool.specs.Allocate.{NothingMet, NoHostMemory, Answered, Serves}
-use Rattle.gpu_pool.specs.Free.{GivesBackAny, GivesBackAll, Frees}
+use Rattle.gpu_pool.specs.Allocate.{NothingMet, NoHostMemory, Answered, PoolServes}
+use Rattle.gpu_pool.specs.Free.{GivesBackAny, GivesBackAll, PoolFrees}
 use Rattle.gpu_pool.proofs.Serving.{SourceAfter, serves_source, serves_constant}
 use Rattle.gpu_d3d12.specs.Allocate.{request_in, AllocatesBy}
 use Rattle.gpu_d3d12.specs.Blocks.{is_same_heap}
@@ -93,7 +93,7 @@ module _ {D : Type 0} (g : Ghosts D) where
   all_back_journal old [] new is = ap (λ (s : SourceState D). s.journal) is
   all_back_journal old (heap ∷ heaps) new is = all_back_journal is.0 heaps new is.2 ∙ ap (λ (s : SourceState D). s.journal) is.1.state
 
-  pub frees_journal : (t : ℕ) (p : Piece ID3D12Heap) (old : states.Pool D) (answer : Result (Unit {0}) Refusal) (new : states.Pool D) → Frees (GivesHeapBack g) is_same_heap t p old answer new
+  pub frees_journal : (t : ℕ) (p : Piece ID3D12Heap) (old : states.Pool D) (answer : Result (Unit {0}) Refusal) (new : states.Pool D) → PoolFrees (GivesHeapBack g) is_same_heap t p old answer new
       → new.source.journal ≡ old.source.journal
   frees_journal t p old (Ok u) new f = back_journal old.source f.1.went new.source f.1.source
   frees_journal t p old (Err e) new f = ap (λ (s : states.Pool D). s.source.journal) f.2
@@ -102,7 +102,7 @@ module _ {D : Type 0} (g : Ghosts D) where
   all_back_stays old [] new is = stays_same old new is
   all_back_stays old (heap ∷ heaps) new is = then_stays old is.0 new (given_stays old heap is.0 is.1) (all_back_stays is.0 heaps new is.2)
 
-  pub frees_stays : (t : ℕ) (p : Piece ID3D12Heap) (old : states.Pool D) (answer : Result (Unit {0}) Refusal) (new : states.Pool D) → Frees (GivesHeapBack g) is_same_heap t p old answer new → Stays old.source new.source
+  pub frees_stays : (t : ℕ) (p : Piece ID3D12Heap) (old : states.Pool D) (answer : Result (Unit {0}) Refusal) (new : states.Pool D) → PoolFrees (GivesHeapBack g) is_same_heap t p old answer new → Stays old.source new.source
   frees_stays t p old (Ok u) new f = back_stays old.source f.1.went new.source f.1.source
   frees_stays t p old (Err e) new f = stays_same old.source new.source (ap (λ (s : states.Pool D). s.source) f.2)
 
@@ -136,7 +136,7 @@ module _ {D : Type 0} (g : Ghosts D) where
   source_stays kinds q old (Answered size answer) new is = asked_stays old.source q.memory_type size answer new is
 
   pub serves_keeps : (kinds : _) (q : environments.RequestAt (Unit {0})) (old : states.Pool D) (met : environments.Environment ID3D12Heap) (answer : Result (Piece ID3D12Heap) Refusal) (new : states.Pool D)
-      → Serves kinds (AsksBlock g) q old met answer new → Keeps old new
+      → PoolServes kinds (AsksBlock g) q old met answer new → Keeps old new
   serves_keeps kinds q old met answer new s =
       let same = serves_constant kinds (AsksBlock g) q old met answer new s in
       record { source = source_stays kinds q old met new.source (serves_source kinds (AsksBlock g) q old met answer new s); journal = source_journal kinds q old met new.source (serves_source kinds (AsksBlock g) q old met answer new s); sizes = same.0; budgets = same.1 }

@@ -15,7 +15,7 @@ use Rattle.gpu_d3d12.specs.declared.describe.AllocationCreateDesc.{AllocationCre
 use Rattle.gpu_d3d12.specs.declared.question.ResourceCreateDesc.{ResourceCreateDesc}
 use Rattle.gpu_d3d12.specs.declared.question.CreateCall.{CreateCall}
 use Rattle.gpu_pool.specs.Allocate as environments
-use Rattle.gpu_pool.specs.Free.{Frees}
+use Rattle.gpu_pool.specs.Free.{PoolFrees}
 use Rattle.gpu_pool.specs.Reply as replies
 use Rattle.gpu_pool.specs.State as pools
 use Rattle.gpu_pool.proofs.Freeing.{frees_over}
@@ -70,7 +70,7 @@ module _ {D : Type 0} (g : Ghosts D) where
     contents_seen c = over (seen_of g) c
 
     pub frees_seen : (t : ℕ) (p : Piece ID3D12Heap) (old : states.Pool D) (answer : Result (Unit {0}) Refusal) (new : states.Pool D)
-        → Frees (GivesHeapBack g) is_same_heap t p old answer new → Frees SeesHeapFreed is_same_heap t p (pool_seen old) answer (pool_seen new)
+        → PoolFrees (GivesHeapBack g) is_same_heap t p old answer new → PoolFrees SeesHeapFreed is_same_heap t p (pool_seen old) answer (pool_seen new)
     frees_seen t p old answer new f = frees_over (GivesHeapBack g) SeesHeapFreed (seen_of g) is_same_heap t p old new (λ heap k. sees_heap_freed old.source heap new.source k) answer f
 
     pub allocates_seen : (d : AllocationCreateDesc) (valid : Bool) (met : environments.Environment ID3D12Heap) (reply : replies.Reply ID3D12Heap) (old new : states.Pool D) → old.source.tier ≡ basis.tier

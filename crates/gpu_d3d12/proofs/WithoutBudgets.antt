@@ -16,7 +16,7 @@ use Rattle.gpu_d3d12.specs.declared.question.CreateCall.{CreateCall}
 use Rattle.gpu_d3d12.specs.declared.question.ResourceType.{ResourceType}
 use Rattle.gpu_d3d12.specs.declared.question.ResourceType.TheVariants as resource_types
 use Rattle.gpu_pool.specs.Allocate as environments
-use Rattle.gpu_pool.specs.Free.{Frees}
+use Rattle.gpu_pool.specs.Free.{PoolFrees}
 use Rattle.gpu_pool.specs.Reply as replies
 use Rattle.gpu_pool.specs.State as pools
 use Rattle.gpu_pool.specs.Step as calls
@@ -64,8 +64,8 @@ module _ (basis : Basis) where
   propose_plain w d false met x old new a = (a.0, a.1, ap free_of a.2)
   propose_plain w d true met x old new a = call_plain (calls.ProposeMove w.memory_type_index (piece_of w) (request_of d)) met x old new tt a
 
-  frees_plain : (t : ℕ) (p : Piece ID3D12Heap) (old : Pools) (answer : Result (Unit {0}) Refusal) (new : Pools) → Frees SeesHeapFreed is_same_heap t p old answer new
-      → Frees SeesHeapFreed is_same_heap t p (free_of old) answer (free_of new)
+  frees_plain : (t : ℕ) (p : Piece ID3D12Heap) (old : Pools) (answer : Result (Unit {0}) Refusal) (new : Pools) → PoolFrees SeesHeapFreed is_same_heap t p old answer new
+      → PoolFrees SeesHeapFreed is_same_heap t p (free_of old) answer (free_of new)
   frees_plain t p old answer new f = plain.frees_plain SeesHeapFreed is_same_heap t p old answer new f
 
   -- ---- a resource

@@ -38,13 +38,13 @@ category_content RtvDsvTexture = RtDsTextures
 category_content OtherTexture = NonRtDsTextures
 
 -- the memory type has the location, where one is asked for, and its heaps may hold the category
-abbrev pub Serves : MemoryLocation → ResourceCategory → MemoryKind → Type 0
-Serves location category k = ((location ≡ Unknown) ⊎ (k.location ≡ location)) × ((k.content ≡ All) ⊎ (k.content ≡ category_content category))
+abbrev pub KindServes : MemoryLocation → ResourceCategory → MemoryKind → Type 0
+KindServes location category k = ((location ≡ Unknown) ⊎ (k.location ≡ location)) × ((k.content ≡ All) ⊎ (k.content ≡ category_content category))
 
 -- the memory type at the index serves, and none before it does
 pub record IsFirstServing (location : MemoryLocation) (category : ResourceCategory) (kinds : List MemoryKind) (index : ℕ) : Type 0 where
-  pub serves : IsSomeAnd (slice_get kinds index) (λ k. Serves location category k)
-  pub first : (i : ℕ) (k : MemoryKind) → i < index → slice_get kinds i ≡ Some k → Serves location category k → ⊥
+  pub serves : IsSomeAnd (slice_get kinds index) (λ k. KindServes location category k)
+  pub first : (i : ℕ) (k : MemoryKind) → i < index → slice_get kinds i ≡ Some k → KindServes location category k → ⊥
 
 -- ---- where they stand
 

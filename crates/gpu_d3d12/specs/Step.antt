@@ -40,7 +40,7 @@ use Rattle.gpu_d3d12.specs.declared.question.ResourceType.{ResourceType}
 use Rattle.gpu_d3d12.specs.declared.question.ResourceType.TheVariants as kinds_of_resources
 use Rattle.gpu_pool.specs.Allocate as environments
 use Rattle.gpu_pool.specs.Allocate.{NothingMet, NoHostMemory}
-use Rattle.gpu_pool.specs.Free.{GivesBackAny, Frees}
+use Rattle.gpu_pool.specs.Free.{GivesBackAny, PoolFrees}
 use Rattle.gpu_pool.specs.Reply as replies
 use Rattle.gpu_pool.specs.State as pools
 use Rattle.gpu_pool.specs.State.{IsSoundAt}
@@ -143,7 +143,7 @@ module _ {S : Type 0} (asks : S → ℕ → ℕ → Unit {0} → Result ID3D12He
   -- a resource that is granted stays in its piece; where it is refused the piece is freed
   abbrev pub EndsBy : (t : ℕ) → Piece ID3D12Heap → Result ℕ Refusal → (old new : pools.State S ID3D12Heap) → Type 0
   EndsBy t p (Ok number) old new = new ≡ old
-  EndsBy t p (Err refusal) old new = Frees gives_back is_same_heap t p old (Ok tt) new
+  EndsBy t p (Err refusal) old new = PoolFrees gives_back is_same_heap t p old (Ok tt) new
 
   -- the device is asked for the resource in this piece
   pub record AsksInPiece (d : ResourceCreateDesc) (question : CreateCall) (t : ℕ) (p : Piece ID3D12Heap) (answer : ResourceAnswer) (reply : Reply) (old new : pools.State S ID3D12Heap) : Type 0 where
@@ -182,8 +182,8 @@ module _ {S : Type 0} (asks : S → ℕ → ℕ → Unit {0} → Result ID3D12He
   -- a placed one: where its piece is live it is released, and then the piece freed
   abbrev pub FreesPlaced : Allocation → (number : ℕ) → pools.State S ID3D12Heap → Result (Unit {0}) Refusal → pools.State S ID3D12Heap → Type 0
   FreesPlaced a number old (Ok u) new =
-      (between : S) × releases old.source number between × Frees gives_back is_same_heap a.memory_type_index (piece_of a) (record old { source = between }) (Ok u) new
-  FreesPlaced a number old (Err e) new = Frees gives_back is_same_heap a.memory_type_index (piece_of a) old (Err e) new
+      (between : S) × releases old.source number between × PoolFrees gives_back is_same_heap a.memory_type_index (piece_of a) (record old { source = between }) (Ok u) new
+  FreesPlaced a number old (Err e) new = PoolFrees gives_back is_same_heap a.memory_type_index (piece_of a) old (Err e) new
 
   -- a committed one: where its record is live the record goes, and it is released
   abbrev pub FreesCommitted : (t : ℕ) → CommittedRecord → Contents S → Result (Unit {0}) Refusal → Contents S → Type 0

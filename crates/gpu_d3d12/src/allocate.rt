@@ -15,6 +15,7 @@ use std::alloc::Global;
 
 /// An allocation in the first memory type that serves its location and category. `InvalidAllocationCreateDesc` where the size
 /// is 0 or the alignment isn't a power of two.
+#[inline(always)]
 pub fn allocate_piece<D: D3D12Device>(
     alloc: Global,
     pool: &mut Pool<D3D12Blocks<D>>,

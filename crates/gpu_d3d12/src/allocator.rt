@@ -15,11 +15,11 @@ ghost use Rattle.gpu_d3d12.specs.Setup.{kinds_of_device, setup_fault};
 ghost use Rattle.gpu_pool.specs.Told.{Reports, SetsBudgetAt, TextsLeaks};
 ghost use Rattle.gpu_pool.specs.Reply as replies;
 ghost use Rattle.gpu_pool.specs.Handles.{all_handles};
-ghost use Rattle.gpu_d3d12.specs.Allocate.{Allocates};
+ghost use Rattle.gpu_d3d12.specs.Allocate.{AllocatorAllocates};
 ghost use Rattle.gpu_d3d12.specs.Apart.{IsInside, SharesNoByte};
 ghost use Rattle.gpu_d3d12.specs.Blocks.{HoldsJustLiveBlocks, AsksNothing, releases_recorded, is_same_heap};
 ghost use Rattle.gpu_d3d12.specs.Committed.{statistics_at};
-ghost use Rattle.gpu_d3d12.specs.Free.{Frees};
+ghost use Rattle.gpu_d3d12.specs.Free.{AllocatorFrees};
 ghost use Rattle.gpu_d3d12.specs.Journal.{IsFirstAndOut, with_made, with_released};
 ghost use Rattle.gpu_pool.specs.Allocation.{AreDistinct, IsNewlyLive, IsSecondPlace, RenamesNamed, StayLive};
 ghost use Rattle.gpu_d3d12.specs.Live.{Allocation, IsLive};
@@ -127,7 +127,7 @@ impl<D: D3D12Device> Allocator<D> {
     /// A refusal leaves every block as it was, and the device holds what it held.
     pub fn allocate<L: Log>(&mut self, log: &L, desc: &AllocationCreateDesc) -> Result<Allocation>
         // which memory type is asked, what it met with, what is returned, and what that leaves of blocks and device
-        ensures allocates { Allocates D.D3D12Device desc.now self.old result self.new }
+        ensures allocates { AllocatorAllocates D.D3D12Device desc.now self.old result self.new }
         ensures constant { (self.new.first ≡ self.old.first) × (self.new.setup ≡ self.old.setup)
             × (self.new.committed ≡ self.old.committed) }
         ensures journal { self.new.journal ≡ self.old.journal }
@@ -215,7 +215,7 @@ impl<D: D3D12Device> Allocator<D> {
         log: &L,
         allocation: Allocation,
     ) -> Result<(), (AllocationError, Allocation)>
-        ensures frees { Frees D.D3D12Device allocation self.old result self.new }
+        ensures frees { AllocatorFrees D.D3D12Device allocation self.old result self.new }
         ensures constant { (self.new.first ≡ self.old.first) × (self.new.setup ≡ self.old.setup) }
         ensures journal { self.new.journal ≡ self.old.journal }
         ensures step { IsStep D.D3D12Device (Free allocation) (freed_as result) self.old self.new }
@@ -264,7 +264,7 @@ impl<D: D3D12Device> Allocator<D> {
         from: Allocation,
         to: &Allocation,
     ) -> Result<(), (AllocationError, Allocation)>
-        ensures frees { Frees D.D3D12Device from self.old result self.new }
+        ensures frees { AllocatorFrees D.D3D12Device from self.old result self.new }
         ensures constant { (self.new.first ≡ self.old.first) × (self.new.setup ≡ self.old.setup) }
         ensures journal { self.new.journal ≡ self.old.journal }
         ensures step { IsStep D.D3D12Device (Free from) (freed_as result) self.old self.new }
@@ -286,7 +286,7 @@ impl<D: D3D12Device> Allocator<D> {
         from: &Allocation,
         to: Allocation,
     ) -> Result<(), (AllocationError, Allocation)>
-        ensures frees { Frees D.D3D12Device to self.old result self.new }
+        ensures frees { AllocatorFrees D.D3D12Device to self.old result self.new }
         ensures constant { (self.new.first ≡ self.old.first) × (self.new.setup ≡ self.old.setup) }
         ensures journal { self.new.journal ≡ self.old.journal }
         ensures step { IsStep D.D3D12Device (Free to) (freed_as result) self.old self.new }

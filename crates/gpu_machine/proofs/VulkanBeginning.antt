@@ -42,7 +42,7 @@ use Rattle.gpu_vulkan.specs.declared.preference.Preference.{Preference}
 use Rattle.gpu_machine.specs.VulkanBegin.{Follows, Declines, DeclinesIn, closed, GoesOnBy, TriesSmaller, IsDeniedSmaller, ShrinksTo, Shrinks}
 use Rattle.gpu_machine.specs.VulkanByFlags.{FollowsDown}
 use Rattle.gpu_machine.specs.VulkanDescription.{Description, description_of}
-use Rattle.gpu_machine.specs.VulkanCalls.{Frees, memory_in}
+use Rattle.gpu_machine.specs.VulkanCalls.{MachineFrees, memory_in}
 use Rattle.gpu_machine.specs.VulkanHeapLimit.{Limits}
 use Rattle.gpu_machine.specs.VulkanSmallerBlocks.{smaller_portion}
 use Rattle.gpu_machine.specs.VulkanState.{State, IsOver, KeepsRequest}
@@ -59,8 +59,8 @@ as_many setup requests over =
 -- ---- frees and names as the allocator's
 
 module _ {D : Type 0} (g : Ghosts D) (old new : State DeviceMemory) (a : Allocation) (p : Piece DeviceMemory) (closed : old.requests.awaited ≡ None) (is : piece_of a ≡ Some p) where
-  pub freed : (back : Option (MemoryBack DeviceMemory)) (device after : D) → Frees is_same_memory old a.memory_type_index p (Ok back) new → GivesBack g device (memory_in back) after
-      → allocators.Frees g a old.requests.slots device (Ok tt) new.requests.slots after
+  pub freed : (back : Option (MemoryBack DeviceMemory)) (device after : D) → MachineFrees is_same_memory old a.memory_type_index p (Ok back) new → GivesBack g device (memory_in back) after
+      → allocators.AllocatorFrees g a old.requests.slots device (Ok tt) new.requests.slots after
   freed back device after h gives =
       let f : FreesIn is_same_memory None old.requests a.memory_type_index p (Ok (memory_in back)) new.requests =
       subst (λ (o : Option Awaited). FreesIn is_same_memory o old.requests a.memory_type_index p (Ok (memory_in back)) new.requests) closed h.frees in
@@ -69,8 +69,8 @@ module _ {D : Type 0} (g : Ghosts D) (old new : State DeviceMemory) (a : Allocat
         record { went = memory_in back; left = f.1.left; releases = f.1.releases; slots = f.1.slots; gives_back = gives },
       )
 
-  pub not_freed : (e f : AllocationError) (device : D) → Frees is_same_memory old a.memory_type_index p (Err e) new → refusal_of f ≡ refusal_of e
-      → allocators.Frees g a old.requests.slots device (Err (f, a)) new.requests.slots device
+  pub not_freed : (e f : AllocationError) (device : D) → MachineFrees is_same_memory old a.memory_type_index p (Err e) new → refusal_of f ≡ refusal_of e
+      → allocators.AllocatorFrees g a old.requests.slots device (Err (f, a)) new.requests.slots device
   not_freed e f device h same =
       let n : FreesIn is_same_memory None old.requests a.memory_type_index p (Err e) new.requests =
       subst (λ (o : Option Awaited). FreesIn is_same_memory o old.requests a.memory_type_index p (Err e) new.requests) closed h.frees in

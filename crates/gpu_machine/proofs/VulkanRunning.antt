@@ -21,7 +21,7 @@ use Rattle.gpu_pool.specs.declared.requests.Awaited.{Awaited}
 use Rattle.gpu_pool.specs.declared.requests.Question as pool_questions
 use Rattle.gpu_pool.proofs.Agreeing as agreeing
 use Rattle.gpu_vulkan.specs.Allocate as allocating
-use Rattle.gpu_vulkan.specs.Allocate.{IsAttempt, IsServed, IsFollowed, IsFound, AllocatesBy, Allocates, next_type, is_valid}
+use Rattle.gpu_vulkan.specs.Allocate.{IsAttempt, IsRequestServed, IsFollowed, IsFound, AllocatesBy, AllocatorAllocates, next_type, is_valid}
 use Rattle.gpu_vulkan.specs.BlockAnswer as device_answers
 use Rattle.gpu_vulkan.specs.BlockAnswer.{BlockAnswer, Declined, Granted, Mapped, NotMapped, answer_number, answer_refusal, memory_refusal, map_refusal, memory_of}
 use Rattle.gpu_vulkan.specs.Blocks.{Slots}
@@ -382,7 +382,7 @@ module _ {D : Type 0} (g : Ghosts D) (setup : Setup) (budgets : Budgets) (limits
 
   -- what the law says
   record Done (t : ℕ) (slots : Slots) (device : D) (told : Result Allocated AllocationError) (new : State) (after : D) : Type 0 where
-    served : (result : Outcome) → Returns setup d told result → IsServed g setup budgets t d slots device result new.requests.slots after
+    served : (result : Outcome) → Returns setup d told result → IsRequestServed g setup budgets t d slots device result new.requests.slots after
     same : new ≡ at new.requests.slots
 
   -- the first attempt's piece counts
@@ -390,7 +390,7 @@ module _ {D : Type 0} (g : Ghosts D) (setup : Setup) (budgets : Budgets) (limits
       → Done t slots device told new after
   first_ends t slots device a told new after is h = record {
     served = λ result returns.
-        returns_piece (λ result. Attempted slots t device result new.requests.slots after → IsServed g setup budgets t d slots device result new.requests.slots after) a
+        returns_piece (λ result. Attempted slots t device result new.requests.slots after → IsRequestServed g setup budgets t d slots device result new.requests.slots after) a
         (λ allocation of_it attempt. record { first = Ok allocation; mid = new.requests.slots; between = after; attempt = attempt; followed = (refl, refl, refl) })
         result (subst (λ (x : Result Allocated AllocationError). Returns setup d x result) is returns) (h.attempted result returns);
     same = h.same;
@@ -406,7 +406,7 @@ module _ {D : Type 0} (g : Ghosts D) (setup : Setup) (budgets : Budgets) (limits
       let ends = ends_as slots t device between (Err e.0) told new (at slots) after (fails_as slots t device between r e.0 fails e.2) end.0 (end.1 ∙ follows.1) end.2 in
       record {
         served = λ result returns.
-            returns_error (λ result. Attempted slots t device result new.requests.slots after → IsServed g setup budgets t d slots device result new.requests.slots after) e.0
+            returns_error (λ result. Attempted slots t device result new.requests.slots after → IsRequestServed g setup budgets t d slots device result new.requests.slots after) e.0
             (λ f same attempt. record {
               first = Err f;
               mid = new.requests.slots;
@@ -513,7 +513,7 @@ module _ {D : Type 0} (g : Ghosts D) (d : AllocationCreateDesc) (old : State) (o
 
   -- a request over a device is an allocation
   pub allocates : (n : ℕ) (new : State) (device after : D) (told : Result Allocated AllocationError) (result : Result Allocation AllocationError) → Runs g d n old device told new after → Returns old.setup d told result
-      → Allocates g old.setup old.requests.budgets d old.requests.slots device result new.requests.slots after × (new ≡ record old { requests = record old.requests { slots = new.requests.slots } })
+      → AllocatorAllocates g old.setup old.requests.budgets d old.requests.slots device result new.requests.slots after × (new ≡ record old { requests = record old.requests { slots = new.requests.slots } })
   allocates n new device after told result runs returns =
       let all = valid g old.setup old.requests.budgets old.limits plain.heaps d (is_valid d) old.requests.slots device n runs.first runs.mid told result new after (begun runs.first runs.mid runs.begins) runs.finishes returns in
       (all.0, all.1 ∙ ap (λ (s : State). record s { requests = record s.requests { slots = new.requests.slots } }) (sym is_idle))

@@ -29,7 +29,7 @@ TellsLeave has_set (Ok None) = Unit {0}
 TellsLeave has_set (Err e) = Unit {0}
 
 -- a piece is freed where no question is open, and the heap is told that goes with it, if one does
-pub record Frees (old : State) (t : ℕ) (p : Piece MTLHeap) (result : Result (Option HeapBack) AllocationError) (new : State) : Type 0 where
+pub record MachineFrees (old : State) (t : ℕ) (p : Piece MTLHeap) (result : Result (Option HeapBack) AllocationError) (new : State) : Type 0 where
   pub frees : FreesIdle is_same_heap old.requests t p (heap_in result) new.requests
   pub leaves : TellsLeave old.has_set result
   pub set : new.has_set ≡ old.has_set

@@ -35,7 +35,7 @@ TellsMapped setup t (Ok None) = Unit {0}
 TellsMapped setup t (Err e) = Unit {0}
 
 -- a piece is freed where no question is open, and the memory is told that goes with it, if some does
-pub record Frees {H : Type 0} (eq : H → H → Bool) (old : State H) (t : ℕ) (p : Piece H) (result : Result (Option (MemoryBack H)) AllocationError) (new : State H) : Type 0 where
+pub record MachineFrees {H : Type 0} (eq : H → H → Bool) (old : State H) (t : ℕ) (p : Piece H) (result : Result (Option (MemoryBack H)) AllocationError) (new : State H) : Type 0 where
   pub frees : FreesIdle eq old.requests t p (handle_in result) new.requests
   pub mapped : TellsMapped old.setup t result
   pub state : new ≡ record old { requests = new.requests }

@@ -5,4 +5,5 @@ mod answer;
 mod machine;
 
 pub use answer::{Allocated, Progress, Question};
+pub use gpu_d3d12::{CreateCall, question_for};
 pub use machine::Machine;

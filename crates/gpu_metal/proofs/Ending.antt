@@ -8,7 +8,7 @@ use Rattle.gpu_device.specs.declared.metal.device.MetalDevice.{Ghosts}
 use Rattle.gpu_pool.specs.Allocation.{AreDistinct, piece_of}
 use Rattle.gpu_pool.proofs.Moving.{frees_left}
 use Rattle.gpu_metal.specs.Blocks.{is_same_heap}
-use Rattle.gpu_metal.specs.Free.{Frees}
+use Rattle.gpu_metal.specs.Free.{AllocatorFrees}
 use Rattle.gpu_metal.specs.Live.{Allocation}
 use Rattle.gpu_metal.specs.Source.{GivesHeapBack}
 use Rattle.gpu_metal.specs.State.{State, pool_of}
@@ -21,7 +21,7 @@ pub behind_distinct : (from to : Allocation) → from.memory_block_index < to.me
 behind_distinct from to ahead type slot number = absurd (omega (arith, ahead, slot))
 
 -- an allocation that is freed counts no more
-pub freed_fewer : {D : Type 0} (g : Ghosts D) (a : Allocation) (old : State D) (result : Result (Unit {0}) (AllocationError × Allocation)) (new : State D) → Frees g a old result new
+pub freed_fewer : {D : Type 0} (g : Ghosts D) (a : Allocation) (old : State D) (result : Result (Unit {0}) (AllocationError × Allocation)) (new : State D) → AllocatorFrees g a old result new
     → OnOk result (moves_left (slots_at new.slots a.memory_type_index) + slots_above (slots_at old.slots a.memory_type_index) a.memory_block_index ≤ moves_left (slots_at old.slots a.memory_type_index))
 freed_fewer g a old (Ok u) new f = frees_left (GivesHeapBack g) is_same_heap a.memory_type_index (piece_of a) (pool_of old) (Ok u) (pool_of new) f.frees
 freed_fewer g a old (Err e) new f = tt

@@ -2,10 +2,10 @@
 use Rattle.std.proofs.Common.{◌≡◌, ◌<◌, ℕ, Option, Some, None, slice_get, refl, arith}
 use Rattle.std.specs.Prelude.{IsSomeAnd}
 use Rattle.gpu_values.specs.declared.memory_location.MemoryLocation.{MemoryLocation}
-use Rattle.gpu_metal.specs.MemoryKinds.{locations, Serves, IsFirstServing}
+use Rattle.gpu_metal.specs.MemoryKinds.{locations, LocationServes, IsFirstServing}
 
-earlier : (asked : MemoryLocation) (i : ℕ) (o : Option MemoryLocation) → slice_get locations i ≡ o → IsSomeAnd o (λ k. Serves asked k)
-    → ((k : MemoryLocation) → slice_get locations i ≡ Some k → Serves asked k → ⊥) → ⊥
+earlier : (asked : MemoryLocation) (i : ℕ) (o : Option MemoryLocation) → slice_get locations i ≡ o → IsSomeAnd o (λ k. LocationServes asked k)
+    → ((k : MemoryLocation) → slice_get locations i ≡ Some k → LocationServes asked k → ⊥) → ⊥
 earlier asked i None at serves none = absurd serves
 earlier asked i (Some k) at serves none = none k at serves
 

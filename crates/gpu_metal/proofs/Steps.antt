@@ -27,7 +27,7 @@ use Rattle.gpu_pool.proofs.Moving.{proposes_over}
 use Rattle.gpu_pool.proofs.Serving.{serves_over}
 use Rattle.gpu_metal.specs.Allocate.{is_valid, request_in, IsAttempted, AllocatesBy}
 use Rattle.gpu_metal.specs.Blocks.{is_same_heap}
-use Rattle.gpu_metal.specs.Free.{freed_of, Frees}
+use Rattle.gpu_metal.specs.Free.{freed_of, AllocatorFrees}
 use Rattle.gpu_pool.specs.Allocation.{piece_of, Returns, ReturnsPlace, ProposesNamed}
 use Rattle.gpu_metal.specs.Live.{Allocation}
 use Rattle.gpu_metal.specs.Source.{SourceState, AsksBlock, GivesHeapBack, CommitsSet}
@@ -137,7 +137,7 @@ module _ {D : Type 0} (g : Ghosts D) where
   freed_reply (Ok u) = refl
   freed_reply (Err e) = refl
 
-  pub free_step : (a : Allocation) (old new : State D) (result : Result (Unit {0}) (AllocationError × Allocation)) → Frees g a old result new → IsStep g (Free a) (freed_as result) old new
+  pub free_step : (a : Allocation) (old new : State D) (result : Result (Unit {0}) (AllocationError × Allocation)) → AllocatorFrees g a old result new → IsStep g (Free a) (freed_as result) old new
   free_step a old new result f = (
     NothingMet,
     (

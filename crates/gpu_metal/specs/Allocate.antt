@@ -30,7 +30,7 @@ module _ {D : Type 0} (g : Ghosts D) (d : AllocationCreateDesc) where
     pub memory_type : ℕ
     pub first : IsFirstServing d.location memory_type
     pub answer : Result (Piece MTLHeap) Refusal
-    pub allocates : pools.Allocates kinds_of_device (AsksBlock g) (request_in memory_type d) old answer new
+    pub allocates : pools.PoolAllocates kinds_of_device (AsksBlock g) (request_in memory_type d) old answer new
     pub returns : Returns memory_type d.name.now result answer
 
   -- an allocation, where its description is valid or isn't
@@ -39,5 +39,5 @@ module _ {D : Type 0} (g : Ghosts D) (d : AllocationCreateDesc) where
   AllocatesBy true old result new = IsAttempted (pool_of old) result (pool_of new)
 
   -- an allocation, as its description is
-  abbrev pub Allocates : State D → Result Allocation AllocationError → State D → Type 0
-  Allocates old result new = AllocatesBy (is_valid d) old result new
+  abbrev pub AllocatorAllocates : State D → Result Allocation AllocationError → State D → Type 0
+  AllocatorAllocates old result new = AllocatesBy (is_valid d) old result new

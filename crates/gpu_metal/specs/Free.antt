@@ -21,6 +21,6 @@ ComesBack a (Ok _) = Unit {0}
 ComesBack a (Err e) = e.1 ≡ a
 
 -- a live piece is freed, and its block goes back with it where that goes; of one that isn't live nothing changes, and the allocation comes back as it was
-pub record Frees {D : Type 0} (g : Ghosts D) (a : Allocation) (old : State D) (result : Result (Unit {0}) (AllocationError × Allocation)) (new : State D) : Type 0 where
-  pub frees : pools.Frees (GivesHeapBack g) is_same_heap a.memory_type_index (piece_of a) (pool_of old) (freed_of result) (pool_of new)
+pub record AllocatorFrees {D : Type 0} (g : Ghosts D) (a : Allocation) (old : State D) (result : Result (Unit {0}) (AllocationError × Allocation)) (new : State D) : Type 0 where
+  pub frees : pools.PoolFrees (GivesHeapBack g) is_same_heap a.memory_type_index (piece_of a) (pool_of old) (freed_of result) (pool_of new)
   pub comes_back : ComesBack a result

@@ -15,13 +15,13 @@ locations = GpuOnly ∷ CpuToGpu ∷ GpuToCpu ∷ []
 -- ---- which serves
 
 -- a memory type serves its own location, and any serves an unknown one
-abbrev pub Serves : (asked location : MemoryLocation) → Type 0
-Serves asked location = (asked ≡ Unknown) ⊎ (location ≡ asked)
+abbrev pub LocationServes : (asked location : MemoryLocation) → Type 0
+LocationServes asked location = (asked ≡ Unknown) ⊎ (location ≡ asked)
 
 -- the memory type at the index serves, and none before it does
 pub record IsFirstServing (asked : MemoryLocation) (index : ℕ) : Type 0 where
-  pub serves : IsSomeAnd (slice_get locations index) (λ location. Serves asked location)
-  pub first : (i : ℕ) (location : MemoryLocation) → i < index → slice_get locations i ≡ Some location → Serves asked location → ⊥
+  pub serves : IsSomeAnd (slice_get locations index) (λ location. LocationServes asked location)
+  pub first : (i : ℕ) (location : MemoryLocation) → i < index → slice_get locations i ≡ Some location → LocationServes asked location → ⊥
 
 -- ---- what their heaps are
 

@@ -14,10 +14,10 @@ ghost use Rattle.gpu_pool.specs.Told.{Reports, SetsBudgetAt};
 ghost use Rattle.gpu_pool.specs.Handles.{all_handles};
 ghost use Rattle.gpu_pool.specs.Reply as replies;
 ghost use Rattle.gpu_pool.specs.Reply.{Done};
-ghost use Rattle.gpu_metal.specs.Allocate.{Allocates};
+ghost use Rattle.gpu_metal.specs.Allocate.{AllocatorAllocates};
 ghost use Rattle.gpu_metal.specs.Apart.{IsInside, SharesNoByte};
 ghost use Rattle.gpu_metal.specs.Blocks.{is_same_heap, residency_of, left_behind, HoldsJustLiveBlocks};
-ghost use Rattle.gpu_metal.specs.Free.{Frees};
+ghost use Rattle.gpu_metal.specs.Free.{AllocatorFrees};
 ghost use Rattle.gpu_pool.specs.Allocation.{AreDistinct, IsNewlyLive, IsSecondPlace, StayLive};
 ghost use Rattle.gpu_metal.specs.Live.{Allocation, IsLive};
 ghost use Rattle.gpu_metal.specs.Step.{IsStep, IsAllocateStep, IsMoveStep, Free, Commit, SetBudget, Budget, Capacity, LiveHeaps, Report, freed_as, reply_of_done, reply_of_report};
@@ -104,7 +104,7 @@ impl<D: MetalDevice> Allocator<D> {
     /// A refusal leaves every block as it was, and the device holds what it held.
     pub fn allocate<L: Log>(&mut self, log: &L, desc: &AllocationCreateDesc) -> Result<Allocation>
         // which memory type is asked, what it met with, what is returned, and what that leaves of blocks, device and set
-        ensures allocates { Allocates D.MetalDevice desc.now self.old result self.new }
+        ensures allocates { AllocatorAllocates D.MetalDevice desc.now self.old result self.new }
         ensures constant { (self.new.first ≡ self.old.first) × (self.new.setup ≡ self.old.setup)
             × (self.new.budgets ≡ self.old.budgets) }
         ensures step { IsAllocateStep D.MetalDevice desc.now result self.old self.new }
@@ -130,7 +130,7 @@ impl<D: MetalDevice> Allocator<D> {
         log: &L,
         allocation: Allocation,
     ) -> Result<(), (AllocationError, Allocation)>
-        ensures frees { Frees D.MetalDevice allocation self.old result self.new }
+        ensures frees { AllocatorFrees D.MetalDevice allocation self.old result self.new }
         ensures constant { (self.new.first ≡ self.old.first) × (self.new.setup ≡ self.old.setup)
             × (self.new.budgets ≡ self.old.budgets) }
         ensures step { IsStep D.MetalDevice (Free allocation) (freed_as result) self.old self.new }
@@ -179,7 +179,7 @@ impl<D: MetalDevice> Allocator<D> {
         from: Allocation,
         to: &Allocation,
     ) -> Result<(), (AllocationError, Allocation)>
-        ensures frees { Frees D.MetalDevice from self.old result self.new }
+        ensures frees { AllocatorFrees D.MetalDevice from self.old result self.new }
         ensures constant { (self.new.first ≡ self.old.first) × (self.new.setup ≡ self.old.setup)
             × (self.new.budgets ≡ self.old.budgets) }
         ensures step { IsStep D.MetalDevice (Free from) (freed_as result) self.old self.new }
@@ -201,7 +201,7 @@ impl<D: MetalDevice> Allocator<D> {
         from: &Allocation,
         to: Allocation,
     ) -> Result<(), (AllocationError, Allocation)>
-        ensures frees { Frees D.MetalDevice to self.old result self.new }
+        ensures frees { AllocatorFrees D.MetalDevice to self.old result self.new }
         ensures constant { (self.new.first ≡ self.old.first) × (self.new.setup ≡ self.old.setup)
             × (self.new.budgets ≡ self.old.budgets) }
         ensures step { IsStep D.MetalDevice (Free to) (freed_as result) self.old self.new }

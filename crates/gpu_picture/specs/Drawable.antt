@@ -24,9 +24,9 @@ DidAny old line _ _ = ⊥
 
 -- a line does in a plan trace what it does there
 abbrev pub DidPlan : PlanStage → List ℕ → Outcome DrawableReply → Drawable → Type 0
-DidPlan old line Nothing (drawables.Plan new) = plan.Serves old line Nothing new
-DidPlan old line (Replied (replies.Plan r)) (drawables.Plan new) = plan.Serves old line (Replied r) new
-DidPlan old line Bad (drawables.Plan new) = plan.Serves old line Bad new
+DidPlan old line Nothing (drawables.Plan new) = plan.StageServes old line Nothing new
+DidPlan old line (Replied (replies.Plan r)) (drawables.Plan new) = plan.StageServes old line (Replied r) new
+DidPlan old line Bad (drawables.Plan new) = plan.StageServes old line Bad new
 DidPlan old line _ _ = ⊥
 
 -- the beginning of a line that begins a plan

@@ -17,10 +17,10 @@ pub record IsBad (stage : PlanStage) (line : List ℕ) : Type 0 where
   pub says : (c : Command) → SaysCommand line c → Admits stage (sort_of_command c) → ⊥
 
 -- what one line does
-abbrev pub Serves : PlanStage → List ℕ → Outcome Reply → PlanStage → Type 0
-Serves old line Nothing new = IsBlank line × (new ≡ old)
-Serves old line (Replied r) new = (c : Command) × SaysCommand line c × Step old c r new
-Serves old line Bad new = IsBad old line
+abbrev pub StageServes : PlanStage → List ℕ → Outcome Reply → PlanStage → Type 0
+StageServes old line Nothing new = IsBlank line × (new ≡ old)
+StageServes old line (Replied r) new = (c : Command) × SaysCommand line c × Step old c r new
+StageServes old line Bad new = IsBad old line
 
 -- the reply and the end of its line
 abbrev pub reply_line : Reply → List ℕ

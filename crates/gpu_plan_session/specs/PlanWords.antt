@@ -25,10 +25,10 @@ abbrev pub FitsResource : Resource → Type 0
 FitsResource r = (r.size < 2 ^ 64) × (r.alignment < 2 ^ 64) × (r.first < 2 ^ 64) × (r.last < 2 ^ 64)
 
 -- what a command's numbers and names may be
-abbrev pub Fits : Command → Type 0
-Fits (Plan page) = (page < 2 ^ 64) × IsPowerOfTwo page
-Fits (Add key r name) = (key < 2 ^ 64) × FitsResource r × IsName (string_bytes name)
-Fits Solve = Unit {0}
+abbrev pub CommandFits : Command → Type 0
+CommandFits (Plan page) = (page < 2 ^ 64) × IsPowerOfTwo page
+CommandFits (Add key r name) = (key < 2 ^ 64) × FitsResource r × IsName (string_bytes name)
+CommandFits Solve = Unit {0}
 
 -- these words are the resource's
 pub record AreWordsOf (r : Resource) (size alignment kind first last : List ℕ) : Type 0 where
@@ -41,7 +41,7 @@ pub record AreWordsOf (r : Resource) (size alignment kind first last : List ℕ)
 -- these words are the command's
 pub record Spells (line : List (List ℕ)) (c : Command) : Type 0 where
   pub is : line ≡ words c
-  pub fits : Fits c
+  pub fits : CommandFits c
 
 -- the words are this command's, or no command's
 abbrev pub Says : List (List ℕ) → Option Command → Type 0

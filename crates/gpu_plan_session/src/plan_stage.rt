@@ -14,13 +14,13 @@ pub enum PlanStage {
 
 impl PlanStage {
     ghost use Rattle.std.specs.Prelude.{MatchOption};
-    ghost use Rattle.gpu_plan_session.specs.PlanWords.{Fits};
+    ghost use Rattle.gpu_plan_session.specs.PlanWords.{CommandFits};
     ghost use Rattle.gpu_plan_session.specs.PlanSort.{sort_of_command};
     ghost use Rattle.gpu_plan_session.specs.PlanStage.{Admits, Step};
 
     /// Serves a command, or answers `None` to one that is out of its order.
     pub fn serve(&mut self, alloc: Global, command: Command) -> Option<Reply>
-        requires { Fits command }
+        requires { CommandFits command }
         ensures { MatchOption result (Admits self.old (sort_of_command command) → ⊥)
             (λ r. Step self.old command r self.new) }
     {

@@ -3,7 +3,7 @@
 ghost use Rattle.std.specs.Prelude.{◌≡◌, ◌≤◌, ℕ, Some, None, IfOk, IfSome};
 ghost use Rattle.gpu_block_session.specs.Run.{Answers};
 ghost use Rattle.gpu_plan_session.specs.declared.plan_stage.PlanStage.TheVariants as stages;
-ghost use Rattle.gpu_plan_session.specs.PlanTrace.{Serves, reply_line};
+ghost use Rattle.gpu_plan_session.specs.PlanTrace.{StageServes, reply_line};
 
 use crate::text::reply::Shown;
 use crate::{Line, PlanStage, Reply, read};
@@ -19,7 +19,7 @@ fn serve(
     mut stage: PlanStage,
     line: &[u8],
 ) -> Result<(PlanStage, Outcome<Reply>), AllocError>
-    ensures { IfOk result (λ r. Serves stage line.now r.1 r.0) }
+    ensures { IfOk result (λ r. StageServes stage line.now r.1 r.0) }
 {
     match read(alloc, line)? {
         Line::Blank => Ok((stage, Outcome::Nothing)),
@@ -32,11 +32,11 @@ fn serve(
 }
 
 impl Trace for PlanStage {
-    ghost use Rattle.gpu_plan_session.specs.PlanTrace.{Serves, reply_line};
+    ghost use Rattle.gpu_plan_session.specs.PlanTrace.{StageServes, reply_line};
 
     type Reply = Reply;
 
-    ghost does = { Serves };
+    ghost does = { StageServes };
 
     ghost reply_line = { reply_line };
 
@@ -67,10 +67,10 @@ pub fn run_plan_trace<R: Read, W: Write, L: Log>(
 ) -> u8
     ensures status { result ≤ 2 }
     ensures whole { result ≡ 0 → IfSome (R.remaining reader.old)
-        (λ input. Answers Serves reply_line stages.Before input (W.contents writer.old)
+        (λ input. Answers StageServes reply_line stages.Before input (W.contents writer.old)
         (W.contents writer.new) None) }
     ensures bad { result ≡ 2 → IfSome (R.remaining reader.old)
-        (λ input. (n : ℕ) × Answers Serves reply_line stages.Before input
+        (λ input. (n : ℕ) × Answers StageServes reply_line stages.Before input
         (W.contents writer.old) (W.contents writer.new) (Some n)) }
 {
     run_from(log, alloc, PlanStage::Before, reader, writer)

@@ -5,7 +5,7 @@ use Rattle.gpu_values.specs.declared.error.AllocationError.{AllocationError}
 use Rattle.gpu_core.specs.declared.piece.Piece.{Piece}
 use Rattle.gpu_core.specs.declared.piece.Request.{Request}
 use Rattle.gpu_pool.specs.State as pools
-use Rattle.gpu_pool.specs.Allocate.{RequestAt, request_at, NothingMet, NoHostMemory, Answered, NeedsNewBlock, Allocates}
+use Rattle.gpu_pool.specs.Allocate.{RequestAt, request_at, NothingMet, NoHostMemory, Answered, NeedsNewBlock, PoolAllocates}
 use Rattle.gpu_pool.specs.Source.{result_of}
 use Rattle.gpu_pool.specs.Begin.{NoneAsked, Asks, BeginsIn, Begins, Grants, GrantsIn, Declines, DeclinesIn}
 use Rattle.gpu_pool.specs.RequestState.{RequestState, pool_of}
@@ -24,7 +24,7 @@ module _ {S H X : Type 0} (asks : S → ℕ → ℕ → X → Result H Refusal �
 
   -- the answer of an allocation from the source, and that nothing is left open
   pub record Ends (answer : Result (Piece H) Refusal) (after : S) (new : RequestState H) : Type 0 where
-    pub allocates : Allocates old.kinds asks (request_at t r x) (pool_of source old) answer (pool_of after new)
+    pub allocates : PoolAllocates old.kinds asks (request_at t r x) (pool_of source old) answer (pool_of after new)
     pub closed : IsClosed old new
 
   module _ (shut : old.awaited ≡ None) where

@@ -11,7 +11,7 @@ use Rattle.gpu_core.proofs.Options.{none_some, some_same}
 use Rattle.gpu_core.proofs.Placed.{only_block, some_below}
 use Rattle.gpu_core.proofs.Sizes.{releases_size}
 use Rattle.gpu_core.proofs.StayLive.{released_keeps_others}
-use Rattle.gpu_pool.specs.Free.{GivesBackAny, GivesBackOf, Frees}
+use Rattle.gpu_pool.specs.Free.{GivesBackAny, GivesBackOf, PoolFrees}
 use Rattle.gpu_pool.specs.Held.{HoldsJustBlocks}
 use Rattle.gpu_pool.specs.Live.{IsLive}
 use Rattle.gpu_pool.specs.Source.{Removes}
@@ -58,20 +58,20 @@ module _ {S H X : Type 0} (g : Ghosts S H X) (eq : H → H → Bool) (t : ℕ) (
   abbrev Holds : State S H → Type 0
   Holds s = HoldsJustBlocks g.number (g.held s.source) s.slots
 
-  pub frees_holds : (old : State S H) (answer : Result (Unit {0}) Refusal) (new : State S H) → Frees (GivesBackOf g) eq t p old answer new → Holds old → Holds new
+  pub frees_holds : (old : State S H) (answer : Result (Unit {0}) Refusal) (new : State S H) → PoolFrees (GivesBackOf g) eq t p old answer new → Holds old → Holds new
   frees_holds old (Err e) new f h = subst Holds (sym f.2) h
   frees_holds old (Ok u) new f h =
       let r = f.1.slots in
       subst (HoldsJustBlocks g.number (g.held new.source)) (sym r.slots)
       (released_holds old.slots (type_below eq old.slots t p f.0) old.source new.source _ f.1.went r.left r.releases f.1.source h)
 
-  pub frees_kinds : (old : State S H) (answer : Result (Unit {0}) Refusal) (new : State S H) → Frees (GivesBackOf g) eq t p old answer new → g.kinds new.source ≡ g.kinds old.source
+  pub frees_kinds : (old : State S H) (answer : Result (Unit {0}) Refusal) (new : State S H) → PoolFrees (GivesBackOf g) eq t p old answer new → g.kinds new.source ≡ g.kinds old.source
   frees_kinds old (Err e) new f = ap (λ (s : State S H). g.kinds s.source) f.2
   frees_kinds old (Ok u) new f = kinds_after old.source f.1.went new.source f.1.source
 
 -- every other live piece stays live
 pub frees_keeps : {S H : Type 0} (gives_back : S → H → S → Type 0) (eq : H → H → Bool) (ks : List (Bool × ℕ)) (t : ℕ) (p : Piece H) (old : State S H) (answer : Result (Unit {0}) Refusal) (new : State S H)
-    → IsSoundAt ks old.slots t → Frees gives_back eq t p old answer new → (u : ℕ) (q : Piece H) → IsLive eq old.slots u q → AreDistinct u q t p → IsLive eq new.slots u q
+    → IsSoundAt ks old.slots t → PoolFrees gives_back eq t p old answer new → (u : ℕ) (q : Piece H) → IsLive eq old.slots u q → AreDistinct u q t p → IsLive eq new.slots u q
 frees_keeps {S} {H} gives_back eq ks t p old (Err e) new sound f u q live other = subst (λ (s : State S H). IsLive eq s.slots u q) (sym f.2) live
 frees_keeps {S} {H} gives_back eq ks t p old (Ok _) new sound f u q live other =
     let r = f.1.slots in
@@ -86,6 +86,6 @@ module _ {S T H : Type 0} (gives_back : S → H → S → Type 0) (seen : T → 
   back_over None is = ap view is
   back_over (Some handle) is = each handle is
 
-  pub frees_over : (answer : Result (Unit {0}) Refusal) → Frees gives_back eq t p old answer new → Frees seen eq t p (over view old) answer (over view new)
+  pub frees_over : (answer : Result (Unit {0}) Refusal) → PoolFrees gives_back eq t p old answer new → PoolFrees seen eq t p (over view old) answer (over view new)
   frees_over (Ok u) f = (f.0, record { went = f.1.went; slots = f.1.slots; source = back_over f.1.went f.1.source; state = ap (over view) f.1.state })
   frees_over (Err e) f = (f.0, f.1, ap (over view) f.2)

@@ -23,7 +23,7 @@ use Rattle.gpu_core.proofs.Sizes.{takes_size}
 use Rattle.gpu_core.proofs.StayLive.{IsNewPiece, served_keeps}
 use Rattle.gpu_core.proofs.Types.{slots_after}
 use Rattle.gpu_pool.specs.Allocate.{Environment, NothingMet, NoHostMemory, Answered}
-use Rattle.gpu_pool.specs.Free.{Frees}
+use Rattle.gpu_pool.specs.Free.{PoolFrees}
 use Rattle.gpu_pool.specs.Held.{HoldsJustBlocks}
 use Rattle.gpu_pool.specs.Live.{IsLive, StayLive}
 use Rattle.gpu_pool.specs.Move.{GivesSecondPlace, ProposesIn, ProposesIdle, ProposesBy, Proposes, GivesPlace}
@@ -145,7 +145,7 @@ slots_set_at ss t x below = ⊎_elim (λ h. h.1) (λ h. absurd (h.0 refl)) (slot
 
 -- a piece that is freed counts no more
 pub frees_left : {S H : Type 0} (gives_back : S → H → S → Type 0) (eq : H → H → Bool) (t : ℕ) (p : Piece H) (old : State S H) (result : Result (Unit {0}) AllocationError) (new : State S H)
-    → Frees gives_back eq t p old (result_of result) new
+    → PoolFrees gives_back eq t p old (result_of result) new
     → OnOk result (moves_left (slots_at new.slots t) + slots_above (slots_at old.slots t) p.slot ≤ moves_left (slots_at old.slots t))
 frees_left gives_back eq t p old (Err e) new f = tt
 frees_left {S} {H} gives_back eq t p old (Ok _) new f =
@@ -156,7 +156,7 @@ frees_left {S} {H} gives_back eq t p old (Ok _) new f =
 
 -- a move that is carried out leaves fewer
 pub moved_left : {S H : Type 0} (gives_back : S → H → S → Type 0) (eq : H → H → Bool) (t : ℕ) (from to : Piece H) (r : Request) (old mid new : State S H) (u : Unit {0})
-    → GivesSecondPlace eq t from r old.slots to mid.slots → Frees gives_back eq t from mid (Ok u) new → moves_left (slots_at new.slots t) < moves_left (slots_at old.slots t)
+    → GivesSecondPlace eq t from r old.slots to mid.slots → PoolFrees gives_back eq t from mid (Ok u) new → moves_left (slots_at new.slots t) < moves_left (slots_at old.slots t)
 moved_left {S} {H} gives_back eq t from to r old mid new u p f =
     let q = p.proposes in
     let k = f.1.slots in

@@ -12,8 +12,8 @@ use Rattle.gpu_core.proofs.OneOutcome.{prepared_once, needed_once, serves_or_nee
 use Rattle.gpu_core.specs.Blocks.{slots_at, total_capacity}
 use Rattle.gpu_core.specs.Budgets.{SetsBudget, budget_at, block_refusal}
 use Rattle.gpu_core.proofs.Options.{some_same}
-use Rattle.gpu_pool.specs.Allocate.{RequestAt, Environment, NothingMet, NoHostMemory, Answered, type_asked, with_slots, NeedsNewBlock, Serves}
-use Rattle.gpu_pool.specs.Free.{GivesBackAny, Frees}
+use Rattle.gpu_pool.specs.Allocate.{RequestAt, Environment, NothingMet, NoHostMemory, Answered, type_asked, with_slots, NeedsNewBlock, PoolServes}
+use Rattle.gpu_pool.specs.Free.{GivesBackAny, PoolFrees}
 use Rattle.gpu_pool.specs.Move.{ProposesBy}
 use Rattle.gpu_pool.specs.Rename.{RenamesBy}
 use Rattle.gpu_pool.specs.Reply.{Reply, allocated_as, proposed_as, reply_of_done, reported_as, leaked_as}
@@ -37,8 +37,8 @@ module _ {S H X : Type 0} (kinds : List (Bool × ℕ)) (asks : S → ℕ → ℕ
   limits size = block_refusal (total_capacity old.slots) (budget_at old.budgets q.memory_type) (capacity_of (slots_at old.slots q.memory_type)) size
 
   -- one answer and one next state
-  pub serves_once : IsSoundAt kinds old.slots q.memory_type → (met : Environment H) (x y : Result (Piece H) Refusal) (new next : State S H) → Serves kinds asks q old met x new
-      → Serves kinds asks q old met y next → (x ≡ y) × (new ≡ next)
+  pub serves_once : IsSoundAt kinds old.slots q.memory_type → (met : Environment H) (x y : Result (Piece H) Refusal) (new next : State S H) → PoolServes kinds asks q old met x new
+      → PoolServes kinds asks q old met y next → (x ≡ y) × (new ≡ next)
   serves_once sound NothingMet (Ok p) (Ok r) new next a b =
       let once = prepared_once (kind_at kinds q.memory_type).1 (slots_at old.slots q.memory_type) q.request p r a.left b.left sound a.takes b.takes in
       (ap Ok once.0, a.state ∙ ap (with_slots kinds asks q old) once.1 ∙ sym b.state)
@@ -79,7 +79,7 @@ module _ {S H : Type 0} (kinds : List (Bool × ℕ)) (gives_back : S → H → S
   back_once None a b x y = x ∙ sym y
   back_once (Some handle) a b x y = decides old.source a b handle x y
 
-  pub frees_once : (x y : Result (Unit {0}) Refusal) (new next : State S H) → Frees gives_back eq t p old x new → Frees gives_back eq t p old y next → (x ≡ y) × (new ≡ next)
+  pub frees_once : (x y : Result (Unit {0}) Refusal) (new next : State S H) → PoolFrees gives_back eq t p old x new → PoolFrees gives_back eq t p old y next → (x ≡ y) × (new ≡ next)
   frees_once (Ok u) (Ok v) new next a b =
       let r = a.1.slots in
       let s = b.1.slots in

@@ -8,7 +8,7 @@ use Rattle.gpu_values.specs.Refusal.{Refusal}
 use Rattle.gpu_core.specs.declared.piece.Piece.{Piece}
 use Rattle.gpu_core.specs.declared.piece.Request.{Request}
 use Rattle.gpu_pool.specs.State as pools
-use Rattle.gpu_pool.specs.Allocate.{request_at, Allocates, AsksOf}
+use Rattle.gpu_pool.specs.Allocate.{request_at, PoolAllocates, AsksOf}
 use Rattle.gpu_pool.specs.Held.{HoldsJustBlocks}
 use Rattle.gpu_pool.specs.declared.source.BlockSource.{Ghosts}
 use Rattle.gpu_pool.proofs.Serving.{allocates_holds, allocates_kinds, serves_over}
@@ -21,7 +21,7 @@ PoolInvariant B source requests = (requests.awaited ≡ None) × (requests.kinds
 
 pub record Outcome {S H X : Type 0} (B : Ghosts S H X) (t : ℕ) (r : Request) (x : X) (old : pools.State S H) (answer : Result (Piece H) Refusal) (after : S) (new : RequestState H) : Type 0 where
   pub invariant : PoolInvariant B after new
-  pub allocates : Allocates (B.kinds old.source) B.asks (request_at t r x) old answer (pool_of after new)
+  pub allocates : PoolAllocates (B.kinds old.source) B.asks (request_at t r x) old answer (pool_of after new)
   pub constant : B.kinds after ≡ B.kinds old.source
 
 pub outcome : {S H X : Type 0} (B : Ghosts S H X) (t : ℕ) (r : Request) (x : X) (source : S) (requests : RequestState H) → PoolInvariant B source requests → length requests.slots ≡ length requests.kinds
@@ -36,11 +36,11 @@ outcome {S} {H} B t r x source requests inv many old view there answer after new
     let below : t < length requests.slots = omega (arith, within, many, alike) in
     let a = e.allocates in
     let constant = allocates_kinds B requests.kinds q was a.0 answer now a.1 in
-    let asked : Allocates requests.kinds B.asks q was answer now = (a.0, serves_over requests.kinds (AsksOf B) B.asks (λ s. s) q was now (λ size given k. k.exactly) a.0 answer a.1) in
-    let said : Allocates (B.kinds source) B.asks q was answer now = subst (λ ks. Allocates ks B.asks q was answer now) inv.1 asked in
+    let asked : PoolAllocates requests.kinds B.asks q was answer now = (a.0, serves_over requests.kinds (AsksOf B) B.asks (λ s. s) q was now (λ size given k. k.exactly) a.0 answer a.1) in
+    let said : PoolAllocates (B.kinds source) B.asks q was answer now = subst (λ ks. PoolAllocates ks B.asks q was answer now) inv.1 asked in
     record {
       invariant = (e.closed.awaited, e.closed.kinds ∙ inv.1 ∙ sym constant, allocates_holds B requests.kinds q was below a.0 answer now a.1 inv.2);
-      allocates = subst (λ (s : pools.State S H). Allocates (B.kinds s.source) B.asks q s answer now) view said;
+      allocates = subst (λ (s : pools.State S H). PoolAllocates (B.kinds s.source) B.asks q s answer now) view said;
       constant = subst (λ (s : pools.State S H). B.kinds after ≡ B.kinds s.source) view constant;
     }
 
@@ -48,9 +48,9 @@ outcome {S} {H} B t r x source requests inv many old view there answer after new
 pub owned : {S H X : Type 0} (B : Ghosts S H X) (eq : H → H → Bool) → ((h : H) → eq h h ≡ true) → (t : ℕ) (r : Request) (x : X) (source after : S) (was now : RequestState H)
     → PoolInvariant B source was → PoolInvariant B after now → length was.slots ≡ length was.kinds → ((u : ℕ) → IsSoundAt was.kinds was.slots u) → ((u : ℕ) → IsSoundAt now.kinds now.slots u)
     → (old new : pools.State S H) → pool_of source was ≡ old → pool_of after now ≡ new → (result : Result (Piece H) AllocationError)
-    → t < length (B.kinds old.source) → Allocates (B.kinds old.source) B.asks (request_at t r x) old (result_of result) new → B.kinds new.source ≡ B.kinds old.source → Owns eq t old.slots new.slots result
+    → t < length (B.kinds old.source) → PoolAllocates (B.kinds old.source) B.asks (request_at t r x) old (result_of result) new → B.kinds new.source ≡ B.kinds old.source → Owns eq t old.slots new.slots result
 owned {S} {H} B eq same t r x source after was now inv kept many sound sound_after old new view view_after result =
-    let Goal : pools.State S H → pools.State S H → Type 0 = λ o n. t < length (B.kinds o.source) → Allocates (B.kinds o.source) B.asks (request_at t r x) o (result_of result) n → B.kinds n.source ≡ B.kinds o.source
+    let Goal : pools.State S H → pools.State S H → Type 0 = λ o n. t < length (B.kinds o.source) → PoolAllocates (B.kinds o.source) B.asks (request_at t r x) o (result_of result) n → B.kinds n.source ≡ B.kinds o.source
     → Owns eq t o.slots n.slots result in
     let base : Goal (pool_of source was) (pool_of after now) = λ there a constant.
     let alike = ap length inv.1 in

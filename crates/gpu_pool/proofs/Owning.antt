@@ -11,7 +11,7 @@ use Rattle.gpu_core.specs.Types.{Types, slots_of, type_of, kinds, MemoryTypesInv
 use Rattle.gpu_core.proofs.Aligned.{takes_aligned}
 use Rattle.gpu_core.proofs.StayLive.{IsNewPiece, served_keeps, installed_keeps}
 use Rattle.gpu_core.proofs.Types.{type_sound}
-use Rattle.gpu_pool.specs.Allocate.{RequestAt, Environment, NothingMet, NoHostMemory, Answered, Serves, Allocates}
+use Rattle.gpu_pool.specs.Allocate.{RequestAt, Environment, NothingMet, NoHostMemory, Answered, PoolServes, PoolAllocates}
 use Rattle.gpu_pool.specs.Live.{IsLive, StayLive, IsNewlyLive}
 use Rattle.gpu_pool.specs.Source.{result_of}
 use Rattle.gpu_pool.specs.State.{State, kind_at, IsSoundAt}
@@ -54,7 +54,7 @@ module _ {S H X : Type 0} (ks : List (Bool × ℕ)) (asks : S → ℕ → ℕ �
         subst (λ (ss : Slots H). IsNewPiece eq t old.slots ss p) (sym is) (by (subst (λ (ss : Slots H). AreSound granularity (slots_at ss t)) is sound_after)) in
         record { keeps = k.keeps; gives = (k.live, k.other) }
 
-    owned : (met : Environment H) (result : Result (Piece H) AllocationError) → Serves ks asks q old met (result_of result) new → Owned result
+    owned : (met : Environment H) (result : Result (Piece H) AllocationError) → PoolServes ks asks q old met (result_of result) new → Owned result
     owned NothingMet (Ok p) a = new_piece p a.left (ap (λ (s : State S H). s.slots) a.state) (served_keeps eq same granularity t q.request old.slots below sound p a.left a.takes)
     owned NothingMet (Err e) a = unchanged e (ap (λ (s : State S H). s.slots) a.1)
     owned NoHostMemory (Ok p) a = absurd a
@@ -67,10 +67,10 @@ module _ {S H X : Type 0} (ks : List (Bool × ℕ)) (asks : S → ℕ → ℕ �
     owned (Answered size (Err why)) (Ok p) a = absurd a
     owned (Answered size (Err why)) (Err e) a = unchanged e (ap (λ (s : State S H). s.slots) a.0.state)
 
-    pub allocates_owns : (result : Result (Piece H) AllocationError) → Allocates ks asks q old (result_of result) new → Owned result
+    pub allocates_owns : (result : Result (Piece H) AllocationError) → PoolAllocates ks asks q old (result_of result) new → Owned result
     allocates_owns result a = owned a.0 result a.1
 
-  aligned : (met : Environment H) (result : Result (Piece H) AllocationError) (new : State S H) → Serves ks asks q old met (result_of result) new → IfOk result (λ p. p.offset % q.request.alignment ≡ 0)
+  aligned : (met : Environment H) (result : Result (Piece H) AllocationError) (new : State S H) → PoolServes ks asks q old met (result_of result) new → IfOk result (λ p. p.offset % q.request.alignment ≡ 0)
   aligned met (Err e) new a = tt
   aligned NothingMet (Ok p) new a = takes_aligned _ q.request p.offset _ _ a.takes.takes
   aligned NoHostMemory (Ok p) new a = absurd a
@@ -79,5 +79,5 @@ module _ {S H X : Type 0} (ks : List (Bool × ℕ)) (asks : S → ℕ → ℕ �
   aligned (Answered size (Err why)) (Ok p) new a = absurd a
 
   -- a piece that is allocated begins at a multiple of the alignment that was asked for
-  pub allocates_at : (result : Result (Piece H) AllocationError) (new : State S H) → Allocates ks asks q old (result_of result) new → IfOk result (λ p. p.offset % q.request.alignment ≡ 0)
+  pub allocates_at : (result : Result (Piece H) AllocationError) (new : State S H) → PoolAllocates ks asks q old (result_of result) new → IfOk result (λ p. p.offset % q.request.alignment ≡ 0)
   allocates_at result new a = aligned a.0 result new a.1

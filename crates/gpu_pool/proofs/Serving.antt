@@ -8,7 +8,7 @@ use Rattle.gpu_core.specs.declared.piece.Piece.{Piece}
 use Rattle.gpu_core.specs.Blocks.{slots_at}
 use Rattle.gpu_core.proofs.Sizes.{takes_size}
 use Rattle.gpu_core.proofs.Placed.{only_block, installs_only, prepares_only}
-use Rattle.gpu_pool.specs.Allocate.{RequestAt, Environment, NothingMet, NoHostMemory, Answered, NeedsNewBlock, AsksOf, Serves}
+use Rattle.gpu_pool.specs.Allocate.{RequestAt, Environment, NothingMet, NoHostMemory, Answered, NeedsNewBlock, AsksOf, PoolServes}
 use Rattle.gpu_pool.specs.Held.{held_as, HoldsJustBlocks}
 use Rattle.gpu_pool.specs.Source.{Adds}
 use Rattle.gpu_pool.specs.State.{State, kind_at, over}
@@ -23,7 +23,7 @@ fresh_size false size granularity = refl
 
 module _ {S H X : Type 0} (kinds : List (Bool × ℕ)) (asks : S → ℕ → ℕ → X → Result H Refusal → S → Type 0) (q : RequestAt X) (old : State S H) where
   -- nothing else changes
-  pub serves_constant : (met : Environment H) (answer : Result (Piece H) Refusal) (new : State S H) → Serves kinds asks q old met answer new → (new.sizes ≡ old.sizes) × (new.budgets ≡ old.budgets)
+  pub serves_constant : (met : Environment H) (answer : Result (Piece H) Refusal) (new : State S H) → PoolServes kinds asks q old met answer new → (new.sizes ≡ old.sizes) × (new.budgets ≡ old.budgets)
   serves_constant NothingMet (Ok p) new a = (ap (λ (s : State S H). s.sizes) a.state, ap (λ (s : State S H). s.budgets) a.state)
   serves_constant NothingMet (Err e) new a = (ap (λ (s : State S H). s.sizes) a.1, ap (λ (s : State S H). s.budgets) a.1)
   serves_constant NoHostMemory (Ok p) new a = absurd a
@@ -39,7 +39,7 @@ module _ {S H X : Type 0} (kinds : List (Bool × ℕ)) (asks : S → ℕ → ℕ
   SourceAfter NoHostMemory new = new ≡ old.source
   SourceAfter (Answered size answer) new = asks old.source q.memory_type size q.extra answer new
 
-  pub serves_source : (met : Environment H) (answer : Result (Piece H) Refusal) (new : State S H) → Serves kinds asks q old met answer new → SourceAfter met new.source
+  pub serves_source : (met : Environment H) (answer : Result (Piece H) Refusal) (new : State S H) → PoolServes kinds asks q old met answer new → SourceAfter met new.source
   serves_source NothingMet (Ok p) new a = ap (λ (s : State S H). s.source) a.state
   serves_source NothingMet (Err e) new a = ap (λ (s : State S H). s.source) a.1
   serves_source NoHostMemory (Ok p) new a = absurd a
@@ -57,7 +57,7 @@ module _ {S T H X : Type 0} (kinds : List (Bool × ℕ)) (asks : S → ℕ → �
   abbrev needs_over : (size : ℕ) (why : Option Refusal) → NeedsNewBlock kinds asks q old size why → NeedsNewBlock kinds seen q (over view old) size why
   needs_over size why n = record { is_dedicated = n.is_dedicated; pending = n.pending; needs = n.needs; limits = n.limits }
 
-  pub serves_over : (met : Environment H) (answer : Result (Piece H) Refusal) → Serves kinds asks q old met answer new → Serves kinds seen q (over view old) met answer (over view new)
+  pub serves_over : (met : Environment H) (answer : Result (Piece H) Refusal) → PoolServes kinds asks q old met answer new → PoolServes kinds seen q (over view old) met answer (over view new)
   serves_over NothingMet (Ok p) a = record { shared = a.shared; left = a.left; takes = a.takes; state = ap (over view) a.state }
   serves_over NothingMet (Err e) a = ((a.0.0, needs_over a.0.0 (Some e) a.0.1), ap (over view) a.1)
   serves_over NoHostMemory (Ok p) a = absurd a
@@ -86,7 +86,7 @@ module _ {S H X : Type 0} (g : Ghosts S H X) (kinds : List (Bool × ℕ)) (q : R
   same : (new : State S H) → new ≡ old → Holds old → Holds new
   same new is h = subst Holds (sym is) h
 
-  pub allocates_holds : u < length old.slots → (met : Environment H) (answer : Result (Piece H) Refusal) (new : State S H) → Serves kinds (AsksOf g) q old met answer new → Holds old → Holds new
+  pub allocates_holds : u < length old.slots → (met : Environment H) (answer : Result (Piece H) Refusal) (new : State S H) → PoolServes kinds (AsksOf g) q old met answer new → Holds old → Holds new
   allocates_holds below NothingMet (Ok p) new a h =
       let s = a.takes in
       let b : Slot H = record s.slot { block = s.after } in
@@ -111,7 +111,7 @@ module _ {S H X : Type 0} (g : Ghosts S H X) (kinds : List (Bool × ℕ)) (q : R
   allocates_holds below (Answered size (Err why)) (Err e) new a h = same_holds g.number (g.held old.source) (g.held new.source) old.slots new.slots (ap (λ (s : State S H). s.slots) a.0.state) a.0.question.held h
 
   -- which memory types there are never changes
-  pub allocates_kinds : (met : Environment H) (answer : Result (Piece H) Refusal) (new : State S H) → Serves kinds (AsksOf g) q old met answer new → g.kinds new.source ≡ g.kinds old.source
+  pub allocates_kinds : (met : Environment H) (answer : Result (Piece H) Refusal) (new : State S H) → PoolServes kinds (AsksOf g) q old met answer new → g.kinds new.source ≡ g.kinds old.source
   allocates_kinds NothingMet (Ok p) new a = ap (λ (s : State S H). g.kinds s.source) a.state
   allocates_kinds NothingMet (Err e) new a = ap (λ (s : State S H). g.kinds s.source) a.1
   allocates_kinds NoHostMemory (Ok p) new a = absurd a

@@ -7,8 +7,8 @@ use Rattle.gpu_core.specs.TypeTake.{has_dedicated_block, NeedsBlock}
 use Rattle.gpu_core.specs.declared.piece.Piece.{Piece}
 use Rattle.gpu_core.specs.Blocks.{slots_at, total_capacity}
 use Rattle.gpu_core.specs.Budgets.{budget_at, block_refusal}
-use Rattle.gpu_pool.specs.Allocate.{RequestAt, Environment, NothingMet, NoHostMemory, Answered, type_asked, NeedsNewBlock, Serves}
-use Rattle.gpu_pool.specs.Free.{Frees}
+use Rattle.gpu_pool.specs.Allocate.{RequestAt, Environment, NothingMet, NoHostMemory, Answered, type_asked, NeedsNewBlock, PoolServes}
+use Rattle.gpu_pool.specs.Free.{PoolFrees}
 use Rattle.gpu_pool.specs.Move.{ProposesBy}
 use Rattle.gpu_pool.specs.Rename.{RenamesBy}
 use Rattle.gpu_pool.specs.Reply.{Reply}
@@ -37,7 +37,7 @@ module _ {S H X : Type 0} (kinds : List (Bool × ℕ)) (asks : S → ℕ → ℕ
     limits = (λ i. block_refusal (total_capacity old.slots) (sym none i) (capacity_of (slots_at old.slots q.memory_type)) size) ∙ n.limits;
   }
 
-  pub serves_plain : (met : Environment H) (answer : Result (Piece H) Refusal) (new : State S H) → Serves kinds asks q old met answer new → Serves kinds asks q plain met answer (without_budgets new)
+  pub serves_plain : (met : Environment H) (answer : Result (Piece H) Refusal) (new : State S H) → PoolServes kinds asks q old met answer new → PoolServes kinds asks q plain met answer (without_budgets new)
   serves_plain NothingMet (Ok p) new a = record {
     shared = sym (ap (λ (k : TypeState H). has_dedicated_block k old.sizes q.requested_dedicated q.request.size) type_plain) ∙ a.shared;
     left = a.left;
@@ -59,7 +59,7 @@ module _ {S H X : Type 0} (kinds : List (Bool × ℕ)) (asks : S → ℕ → ℕ
   serves_plain (Answered size (Err why)) (Err e) new a = (record { needs = needs_plain size None a.0.needs; question = a.0.question; state = ap without_budgets a.0.state }, a.1)
 
 pub frees_plain : {S H : Type 0} (gives_back : S → H → S → Type 0) (eq : H → H → Bool) (t : ℕ) (p : Piece H) (old : State S H) (answer : Result (Unit {0}) Refusal) (new : State S H)
-    → Frees gives_back eq t p old answer new → Frees gives_back eq t p (without_budgets old) answer (without_budgets new)
+    → PoolFrees gives_back eq t p old answer new → PoolFrees gives_back eq t p (without_budgets old) answer (without_budgets new)
 frees_plain gives_back eq t p old (Ok u) new f = (f.0, record { went = f.1.went; slots = f.1.slots; source = f.1.source; state = ap without_budgets f.1.state })
 frees_plain gives_back eq t p old (Err e) new f = (f.0, f.1, ap without_budgets f.2)
 

@@ -75,19 +75,19 @@ module _ {S H X : Type 0} (kinds : List (Bool × ℕ)) (asks : S → ℕ → ℕ
     pub state : new ≡ record old { source = new.source }
 
   -- what a request is answered and what that leaves, by what it met with
-  abbrev pub Serves : State S H → Environment H → Result (Piece H) Refusal → State S H → Type 0
-  Serves old NothingMet (Ok p) new = AllocatesShared old p new
-  Serves old NothingMet (Err e) new = ((size : ℕ) × NeedsNewBlock old size (Some e)) × (new ≡ old)
-  Serves old NoHostMemory (Ok p) new = ⊥
-  Serves old NoHostMemory (Err e) new = (e ≡ host_out_of_memory) × (new ≡ old)
-  Serves old (Answered size (Ok handle)) (Ok p) new = AllocatesNew old size handle p new
-  Serves old (Answered size (Ok handle)) (Err e) new = ⊥
-  Serves old (Answered size (Err why)) (Ok p) new = ⊥
-  Serves old (Answered size (Err why)) (Err e) new = IsDeclined old size why new × (e ≡ why)
+  abbrev pub PoolServes : State S H → Environment H → Result (Piece H) Refusal → State S H → Type 0
+  PoolServes old NothingMet (Ok p) new = AllocatesShared old p new
+  PoolServes old NothingMet (Err e) new = ((size : ℕ) × NeedsNewBlock old size (Some e)) × (new ≡ old)
+  PoolServes old NoHostMemory (Ok p) new = ⊥
+  PoolServes old NoHostMemory (Err e) new = (e ≡ host_out_of_memory) × (new ≡ old)
+  PoolServes old (Answered size (Ok handle)) (Ok p) new = AllocatesNew old size handle p new
+  PoolServes old (Answered size (Ok handle)) (Err e) new = ⊥
+  PoolServes old (Answered size (Err why)) (Ok p) new = ⊥
+  PoolServes old (Answered size (Err why)) (Err e) new = IsDeclined old size why new × (e ≡ why)
 
   -- a request is answered so, whatever it met with
-  abbrev pub Allocates : State S H → Result (Piece H) Refusal → State S H → Type 0
-  Allocates old answer new = (met : Environment H) × Serves old met answer new
+  abbrev pub PoolAllocates : State S H → Result (Piece H) Refusal → State S H → Type 0
+  PoolAllocates old answer new = (met : Environment H) × PoolServes old met answer new
 
 -- a question in the words of the source's own API, and as a pool sees it
 pub record AsksOf {S H X : Type 0} (g : Ghosts S H X) (old : S) (t size : ℕ) (extra : X) (answer : Result H Refusal) (new : S) : Type 0 where

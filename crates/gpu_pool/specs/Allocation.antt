@@ -52,7 +52,7 @@ Returns t name (Err e) (Err r) = refusal_of e ≡ r
 pub record AllocatesNamed {S H X : Type 0} (kinds : List (Bool × ℕ)) (asks : S → ℕ → ℕ → X → Result H Refusal → S → Type 0) (q : pools.RequestAt X)
     (old : State S H) (result : Result (Allocation H) AllocationError) (new : State S H) : Type 0 where
   pub answer : Result (Piece H) Refusal
-  pub allocates : pools.Allocates kinds asks q old answer new
+  pub allocates : pools.PoolAllocates kinds asks q old answer new
   pub returns : Returns q.memory_type q.request.name result answer
 
 -- the allocation has that name, and all else of it is as it was

@@ -28,9 +28,9 @@ module _ {S H : Type 0} (gives_back : S → H → S → Type 0) where
     pub state : new ≡ record old { source = new.source; slots = new.slots }
 
   -- a live piece is freed; of one that isn't live nothing changes
-  abbrev pub Frees : (H → H → Bool) → (t : ℕ) → Piece H → State S H → Result (Unit {0}) Refusal → State S H → Type 0
-  Frees eq t p old (Ok _) new = IsLive eq old.slots t p × FreesPiece t p old new
-  Frees eq t p old (Err e) new = (IsLive eq old.slots t p → ⊥) × IsReleaseRefusal eq t old.slots p e × (new ≡ old)
+  abbrev pub PoolFrees : (H → H → Bool) → (t : ℕ) → Piece H → State S H → Result (Unit {0}) Refusal → State S H → Type 0
+  PoolFrees eq t p old (Ok _) new = IsLive eq old.slots t p × FreesPiece t p old new
+  PoolFrees eq t p old (Err e) new = (IsLive eq old.slots t p → ⊥) × IsReleaseRefusal eq t old.slots p e × (new ≡ old)
 
 -- a block that goes back, in the words of the source's own API, and as a pool sees it
 pub record GivesBackOf {S H X : Type 0} (g : Ghosts S H X) (old : S) (handle : H) (new : S) : Type 0 where

@@ -9,8 +9,8 @@ use Rattle.gpu_core.specs.Blocks.{total_capacity}
 use Rattle.gpu_core.specs.Budgets.{Budgets, budget_at, SetsBudget}
 use Rattle.gpu_core.specs.Leaks.{all_leaks}
 use Rattle.gpu_core.specs.Reports.{whole_report}
-use Rattle.gpu_pool.specs.Allocate.{RequestAt, Environment, NothingMet, NoHostMemory, Answered, Serves}
-use Rattle.gpu_pool.specs.Free.{Frees}
+use Rattle.gpu_pool.specs.Allocate.{RequestAt, Environment, NothingMet, NoHostMemory, Answered, PoolServes}
+use Rattle.gpu_pool.specs.Free.{PoolFrees}
 use Rattle.gpu_pool.specs.Handles.{all_handles}
 use Rattle.gpu_pool.specs.Move.{ProposesBy}
 use Rattle.gpu_pool.specs.Rename.{RenamesBy}
@@ -53,8 +53,8 @@ pub record SetsBudgetOf {S H : Type 0} (t : ℕ) (budget : Option ℕ) (old : St
 module _ {S H X : Type 0} (kinds : List (Bool × ℕ)) (asks : S → ℕ → ℕ → X → Result H Refusal → S → Type 0) (gives_back : S → H → S → Type 0) (eq : H → H → Bool) where
   -- from old, the call may return this reply and leave new, where it met with this
   abbrev pub Step : State S H → Call H X → Environment H → Reply H → State S H → Type 0
-  Step old (Allocate q) met reply new = (answer : Result (Piece H) Refusal) × (reply ≡ allocated_as q.memory_type answer) × Serves kinds asks q old met answer new
-  Step old (Free t p) met reply new = (met ≡ NothingMet) × (answer : Result (Unit {0}) Refusal) × (reply ≡ reply_of_done answer) × Frees gives_back eq t p old answer new
+  Step old (Allocate q) met reply new = (answer : Result (Piece H) Refusal) × (reply ≡ allocated_as q.memory_type answer) × PoolServes kinds asks q old met answer new
+  Step old (Free t p) met reply new = (met ≡ NothingMet) × (answer : Result (Unit {0}) Refusal) × (reply ≡ reply_of_done answer) × PoolFrees gives_back eq t p old answer new
   Step old (Rename t p name) met reply new = (answer : Result (Unit {0}) Refusal) × (reply ≡ reply_of_done answer) × RenamesBy eq t p name old met answer new
   Step old (ProposeMove t p r) met reply new = (answer : Result (Option (Piece H)) Refusal) × (reply ≡ proposed_as t answer) × ProposesBy eq t p r old met answer new
   Step old (SetBudget t budget) met reply new = (met ≡ NothingMet) × (answer : Result (Unit {0}) Refusal) × (reply ≡ reply_of_done answer) × SetsBudgetOf t budget old answer new

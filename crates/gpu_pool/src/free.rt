@@ -2,7 +2,7 @@
 
 ghost use Rattle.std.specs.Prelude.{◌≡◌, ℕ, None};
 ghost use Rattle.gpu_core.specs.Types.{slots_of};
-ghost use Rattle.gpu_pool.specs.Free.{Frees, GivesBackAll, GivesBackOf};
+ghost use Rattle.gpu_pool.specs.Free.{PoolFrees, GivesBackAll, GivesBackOf};
 ghost use Rattle.gpu_pool.specs.Handles.{all_handles};
 ghost use Rattle.gpu_pool.specs.Held.{HoldsJustBlocks};
 ghost use Rattle.gpu_pool.specs.RequestState.{pool_of};
@@ -23,7 +23,7 @@ pub fn free_piece<S: BlockSource>(
 ) -> Result<()>
     requires closed { requests.old.awaited ≡ None }
     requires holds { HoldsJustBlocks S.number (S.held source.old) requests.old.slots }
-    ensures frees { Frees (GivesBackOf S.BlockSource) S.Handle.eq index piece.now
+    ensures frees { PoolFrees (GivesBackOf S.BlockSource) S.Handle.eq index piece.now
         (pool_of source.old requests.old) (result_of result) (pool_of source.new requests.new) }
     ensures closed { requests.new.awaited ≡ None }
     ensures kinds { requests.new.kinds ≡ requests.old.kinds }

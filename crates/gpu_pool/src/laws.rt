@@ -6,7 +6,7 @@ ghost use Rattle.gpu_core.specs.Blocks.{slots_at};
 ghost use Rattle.gpu_core.specs.Moves.{moves_left};
 ghost use Rattle.gpu_core.specs.declared.piece.Piece.{Piece};
 ghost use Rattle.gpu_pool.specs.Allocate.{Environment};
-ghost use Rattle.gpu_pool.specs.Free.{Frees};
+ghost use Rattle.gpu_pool.specs.Free.{PoolFrees};
 ghost use Rattle.gpu_pool.specs.Move.{GivesSecondPlace};
 ghost use Rattle.gpu_pool.specs.Reply.{Reply};
 ghost use Rattle.gpu_pool.specs.State.{State, IsSoundAt, without_budgets};
@@ -39,6 +39,6 @@ pub fn unasked_budgets_decide_nothing<S: BlockSource>()
 pub fn moves_end<S: BlockSource>()
     ensures { (t : ℕ) (from to : Piece S.Handle) (r : Request) (old mid new : State S S.Handle)
         (done : Unit {0}) → GivesSecondPlace S.Handle.eq t from r old.slots to mid.slots
-        → Frees S.gives_back S.Handle.eq t from mid (Ok done) new
+        → PoolFrees S.gives_back S.Handle.eq t from mid (Ok done) new
         → moves_left (slots_at new.slots t) < moves_left (slots_at old.slots t) }
 {}

@@ -6,7 +6,7 @@ ghost use Rattle.gpu_values.specs.declared.error.AllocationError.TheVariants.{Ho
 ghost use Rattle.gpu_core.specs.TypeTake.{asked};
 ghost use Rattle.gpu_pool.specs.Allocate.{request_at};
 ghost use Rattle.gpu_pool.specs.Allocation.{piece_of, AllocatesNamed, RenamesNamed, ProposesNamed, IsSecondPlace, AreDistinct, IsLive, StayLive, IsNewlyLive};
-ghost use Rattle.gpu_pool.specs.Free.{Frees};
+ghost use Rattle.gpu_pool.specs.Free.{PoolFrees};
 ghost use Rattle.gpu_pool.specs.Source.{result_of};
 ghost use Rattle.gpu_pool.specs.declared.allocation.Allocation.{Allocation};
 
@@ -94,7 +94,7 @@ impl<S: BlockSource> Pool<S> {
 
     /// Frees an allocation, as `free` frees its piece. It takes no memory.
     pub fn free_named(&mut self, allocation: &Allocation<S::Handle>) -> Result<()>
-        ensures frees { Frees S.gives_back S.Handle.eq allocation.now.memory_type_index
+        ensures frees { PoolFrees S.gives_back S.Handle.eq allocation.now.memory_type_index
             (piece_of allocation.now) self.old (result_of result) self.new }
         ensures constant { S.kinds self.new.source ≡ S.kinds self.old.source }
         ensures keeps { (b : Allocation S.Handle) → IsLive S.Handle.eq self.old.slots b

@@ -15,8 +15,8 @@ ghost use Rattle.gpu_core.specs.Moves.{slots_above, moves_left};
 ghost use Rattle.gpu_core.specs.Reports.{whole_report};
 ghost use Rattle.gpu_core.specs.TypeTake.{asked};
 ghost use Rattle.gpu_core.specs.Types.{slots_of, kinds};
-ghost use Rattle.gpu_pool.specs.Allocate.{request_at, Allocates};
-ghost use Rattle.gpu_pool.specs.Free.{Frees, GivesBackAll};
+ghost use Rattle.gpu_pool.specs.Allocate.{request_at, PoolAllocates};
+ghost use Rattle.gpu_pool.specs.Free.{PoolFrees, GivesBackAll};
 ghost use Rattle.gpu_pool.specs.Handles.{all_handles};
 ghost use Rattle.gpu_pool.specs.Held.{HoldsJustBlocks};
 ghost use Rattle.gpu_pool.specs.Live.{IsLive, StayLive, IsNewlyLive, AreBytesApart};
@@ -89,7 +89,7 @@ impl<S: BlockSource> Pool<S> {
         requires aligned { IsTrue (is_power_of_two request.now.alignment) }
         requires piece { request.now.kind ≢ AllocationType.Free }
         // what the request met with, what it is answered, and what that leaves
-        ensures allocates { Allocates (S.kinds self.old.source) S.asks
+        ensures allocates { PoolAllocates (S.kinds self.old.source) S.asks
             (request_at index request.now extra) self.old (result_of result) self.new }
         ensures constant { S.kinds self.new.source ≡ S.kinds self.old.source }
         ensures aligned { IfOk result (λ p. p.offset % request.now.alignment ≡ 0) }
@@ -104,6 +104,7 @@ impl<S: BlockSource> Pool<S> {
     }
 
     // The same, without what it makes of live pieces.
+    #[inline(always)]
     fn serve(
         &mut self,
         index: usize,
@@ -114,7 +115,7 @@ impl<S: BlockSource> Pool<S> {
         requires sized { 0 < request.now.size }
         requires aligned { IsTrue (is_power_of_two request.now.alignment) }
         requires piece { request.now.kind ≢ AllocationType.Free }
-        ensures allocates { Allocates (S.kinds self.old.source) S.asks
+        ensures allocates { PoolAllocates (S.kinds self.old.source) S.asks
             (request_at index request.now extra) self.old (result_of result) self.new }
         ensures constant { S.kinds self.new.source ≡ S.kinds self.old.source }
     {
@@ -137,7 +138,7 @@ impl<S: BlockSource> Pool<S> {
     /// Frees a piece of the memory type at `index`, and gives its block back where the block is left empty and isn't the only
     /// shared one of its memory type. A live piece is never refused; of any other nothing changes. It takes no memory.
     pub fn free(&mut self, index: usize, piece: &Piece<S::Handle>) -> Result<()>
-        ensures frees { Frees S.gives_back S.Handle.eq index piece.now self.old (result_of result)
+        ensures frees { PoolFrees S.gives_back S.Handle.eq index piece.now self.old (result_of result)
             self.new }
         ensures constant { S.kinds self.new.source ≡ S.kinds self.old.source }
         ensures keeps { (t : ℕ) (p : Piece S.Handle) → IsLive S.Handle.eq self.old.slots t p
@@ -180,7 +181,7 @@ impl<S: BlockSource> Pool<S> {
     ) -> Result<()>
         requires live { IsLive S.Handle.eq self.old.slots index to.now }
         requires ahead { from.now.slot < to.now.slot }
-        ensures frees { Frees S.gives_back S.Handle.eq index from.now self.old (result_of result)
+        ensures frees { PoolFrees S.gives_back S.Handle.eq index from.now self.old (result_of result)
             self.new }
         ensures constant { S.kinds self.new.source ≡ S.kinds self.old.source }
         ensures stays { IsLive S.Handle.eq self.new.slots index to.now }
@@ -202,7 +203,7 @@ impl<S: BlockSource> Pool<S> {
     ) -> Result<()>
         requires live { IsLive S.Handle.eq self.old.slots index from.now }
         requires ahead { from.now.slot < to.now.slot }
-        ensures frees { Frees S.gives_back S.Handle.eq index to.now self.old (result_of result)
+        ensures frees { PoolFrees S.gives_back S.Handle.eq index to.now self.old (result_of result)
             self.new }
         ensures constant { S.kinds self.new.source ≡ S.kinds self.old.source }
         ensures stays { IsLive S.Handle.eq self.new.slots index from.now }

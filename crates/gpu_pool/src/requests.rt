@@ -138,6 +138,7 @@ impl<H: Copy + Eq> Requests<H> {
     }
 
     /// The same as `begin`, but that the next shared block has one of these sizes.
+    #[inline(always)]
     pub fn begin_sized(
         &mut self,
         index: usize,

@@ -21,7 +21,7 @@ use Rattle.gpu_report.specs.Escape.{quoted}
 use Rattle.gpu_report.specs.Json.{listed}
 use Rattle.gpu_report.specs.BlocksJson.{kind_word, piece_names_json, piece_place_json, piece_json, gap_json, statistics_json, place_json, sums_json, block_json, blocks_json}
 use Rattle.gpu_report.specs.BlocksValue.{piece_value, gap_value, statistics_value, block_value, blocks_value}
-use Rattle.gpu_report.specs.Fits.{Fits, PieceFits, GapFits, StatisticsFit, BlockFits}
+use Rattle.gpu_report.specs.Fits.{NumberFits, PieceFits, GapFits, StatisticsFit, BlockFits}
 use Rattle.gpu_report.proofs.Texts.{text_of, items_text, text-then, document-text}
 use Rattle.gpu_report.proofs.ReadEscapes.{same-quoted}
 use Rattle.gpu_report.proofs.ReadLists.{text-listed, numbers-listed, depth-listed}
@@ -107,14 +107,14 @@ text-blocks views =
 numbers-piece : (x : Extent) → PieceFits x → HasNumbers (piece_value x)
 numbers-piece x h =
     let offset : x.offset ≤ x.end = h.2 in
-    let end : Fits x.end = h.3 in
+    let end : NumberFits x.end = h.3 in
     let own : IsNumber (decimal (x.offset - x.start)) × (IsNumber (decimal (x.end - x.offset)) × Unit {0}) =
     (IsNumber-decimal (x.offset - x.start) (omega arith), (IsNumber-decimal (x.end - x.offset) (omega arith), tt)) in
     (tt, (tt, (IsNumber-decimal x.chunk_id h.0, (IsNumber-decimal x.offset (omega arith), own))))
 
 numbers-gap : (g : ℕ × ℕ) → GapFits g → HasNumbers (gap_value g)
 numbers-gap g h =
-    let end : Fits g.1 = h.1 in
+    let end : NumberFits g.1 = h.1 in
     (IsNumber-decimal (g.1 - g.0) (omega arith), (IsNumber-decimal g.0 h.0, tt))
 
 numbers-statistics : (s : BlockStatistics) → StatisticsFit s → HasNumbers (statistics_value s)

@@ -20,7 +20,7 @@ use Rattle.gpu_report.specs.BlocksJson.{kind_word, blocks_json}
 use Rattle.gpu_report.specs.ReportJson.{report_json}
 use Rattle.gpu_report.specs.Values.{number_of, list_of}
 use Rattle.gpu_report.specs.ReportValue.{row_value, block_row_value, report_value}
-use Rattle.gpu_report.specs.Fits.{Fits, RowFits, BlockRowFits, ReportFits, PieceFits, BlockFits}
+use Rattle.gpu_report.specs.Fits.{NumberFits, RowFits, BlockRowFits, ReportFits, PieceFits, BlockFits}
 use Rattle.gpu_report.specs.BlocksValue.{piece_value, block_value, blocks_value}
 use Rattle.gpu_report.specs.Printed.{without_word, printed}
 use Rattle.gpu_report.proofs.Reports.{document-report}
@@ -44,7 +44,7 @@ present (Some j) = j
 abbrev at_name : List ℕ → Json → Json
 at_name name j = present (get name j)
 
-same-number : (m n : ℕ) → Fits m → Fits n → number_of m ≡ number_of n → m ≡ n
+same-number : (m n : ℕ) → NumberFits m → NumberFits n → number_of m ≡ number_of n → m ≡ n
 same-number m n p q e = decimal_injective m n p q (ap (λ j. bytes (as_number j)) e)
 
 same-string : (s t : List ℕ) → string s ≡ string t → s ≡ t
@@ -124,8 +124,8 @@ same-piece x y p q e =
     let word : kind_word x.kind ≡ kind_word y.kind = same-string _ _ (ap (at_name (codes "kind")) e) in
     let kind : x.kind ≡ y.kind = kind-of-word x.kind ∙ ap kind_of word ∙ sym (kind-of-word y.kind) in
     let name : x.name ≡ y.name = same-string _ _ (ap (at_name (codes "name")) e) in
-    let x-ordered : (x.start ≤ x.offset) × (x.offset ≤ x.end) × Fits x.end = (p.1, p.2, p.3) in
-    let y-ordered : (y.start ≤ y.offset) × (y.offset ≤ y.end) × Fits y.end = (q.1, q.2, q.3) in
+    let x-ordered : (x.start ≤ x.offset) × (x.offset ≤ x.end) × NumberFits x.end = (p.1, p.2, p.3) in
+    let y-ordered : (y.start ≤ y.offset) × (y.offset ≤ y.end) × NumberFits y.end = (q.1, q.2, q.3) in
     let number : x.chunk_id ≡ y.chunk_id = same-number _ _ p.0 q.0 (ap (at_name (codes "number")) e) in
     let offset : x.offset ≡ y.offset = same-number _ _ (omega (arith, x-ordered)) (omega (arith, y-ordered)) (ap (at_name (codes "offset")) e) in
     let padding : x.offset - x.start ≡ y.offset - y.start = same-number _ _ (omega (arith, x-ordered)) (omega (arith, y-ordered)) (ap (at_name (codes "padding")) e) in

@@ -2,7 +2,7 @@
 
 ghost use Rattle.std.specs.Prelude.{All};
 ghost use Rattle.gpu_values.specs.Report.{row_of, report_of};
-ghost use Rattle.gpu_report.specs.Fits.{Fits, RowFits, BlockRowFits, ReportFits, GapFits, BlockFits};
+ghost use Rattle.gpu_report.specs.Fits.{NumberFits, RowFits, BlockRowFits, ReportFits, GapFits, BlockFits};
 
 use crate::BlockView;
 use gpu_block_pieces::{Gaps, Pieces};
@@ -50,7 +50,7 @@ pub fn report_fits(report: &AllocatorReport)
 }
 
 fn numbers_fit(pieces: Pieces<'_>)
-    ensures { All (λ x. Fits x.chunk_id) pieces.entry }
+    ensures { All (λ x. NumberFits x.chunk_id) pieces.entry }
 {
     for piece in pieces {
         let _number = piece.chunk_id();

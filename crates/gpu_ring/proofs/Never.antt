@@ -8,7 +8,7 @@ use Rattle.std.proofs.lemmas.List.Elements.{All-nil, All-cons, All-head, All-tai
 use Rattle.std.proofs.lemmas.List.Sums.{sum_by-cons, sum_by-append, sum_by-take-drop, sum_by-take-le}
 use Rattle.std.proofs.lemmas.List.{length-append, length-drop, take-append-le, drop-append-le}
 use Rattle.gpu_ring.specs.Line.{IsFull, IsFed}
-use Rattle.gpu_ring.specs.Calls.{empty_ring, no_pieces, with_piece, Allocates, Places, EndsFrame, Retires, IsInFlight, frames_up_to, bytes_up_to, without_frames}
+use Rattle.gpu_ring.specs.Calls.{empty_ring, no_pieces, with_piece, RingAllocates, Places, EndsFrame, Retires, IsInFlight, frames_up_to, bytes_up_to, without_frames}
 use Rattle.gpu_ring.specs.RingState.{RingState, bytes_of}
 use Rattle.gpu_ring.specs.Runs.{Call, Request, End, Retire, cost, Asked, after_request, after_end, after_retire, ServesAll}
 use Rattle.gpu_ring.specs.declared.ring.Frame.{Frame}
@@ -268,7 +268,7 @@ module _ (most most_a_frame most_frames : ℕ) (some : 0 < most) where
   serves ring large (Request size alignment ∷ calls) s same k = λ sized aligned one frame answer new a.
       by_answer sized aligned one frame answer new a (λ same_new kept. serves ring large calls (after_request s size alignment new) same_new kept)
     where
-      by_answer : 0 < size → 0 < alignment → cost size alignment ≤ most → s.current + cost size alignment ≤ most_a_frame → (answer : Option ℕ) (new : RingState) → Allocates s.ring size alignment answer new
+      by_answer : 0 < size → 0 < alignment → cost size alignment ≤ most → s.current + cost size alignment ≤ most_a_frame → (answer : Option ℕ) (new : RingState) → RingAllocates s.ring size alignment answer new
           → (new.size ≡ ring → IsKept (after_request s size alignment new) → ServesAll most most_a_frame most_frames calls (after_request s size alignment new))
           → IsSome answer × ServesAll most most_a_frame most_frames calls (after_request s size alignment new)
       by_answer sized aligned one frame None new a later = absurd (fits s k (omega (arith, large, same)) size alignment sized aligned one frame a.0)

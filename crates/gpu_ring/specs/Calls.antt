@@ -1,6 +1,6 @@
 -- What a ring's calls return and leave.
 use Rattle.std.specs.Prelude.{◌≡◌, ◌⊎◌, ℕ, ◌+◌, ◌-◌, ◌%◌, ◌==◌, ◌^◌, ◌<◌, ◌≤◌, if◌then◌else◌, [], ◌∷◌, ◌++◌, length, take, drop, Bool, true, false, Option, Some, None}
-use Rattle.gpu_ring.specs.Line.{IsServed, IsFull}
+use Rattle.gpu_ring.specs.Line.{IsRingServed, IsFull}
 use Rattle.gpu_ring.specs.RingState.{RingState, bytes_of}
 use Rattle.gpu_ring.specs.declared.ring.Frame.{Frame}
 use Rattle.gpu_ring.specs.declared.ring.FrameStatistics.{FrameStatistics}
@@ -22,14 +22,14 @@ with_piece frame bytes = record { pieces = frame.pieces + 1; bytes = frame.bytes
 -- the piece begins at the first place that serves, and the open frame takes the bytes up to its end
 pub record Places (old : RingState) (size alignment offset : ℕ) (new : RingState) : Type 0 where
   pub place : ℕ
-  pub served : IsServed old.size old.tail old.taken alignment size place
+  pub served : IsRingServed old.size old.tail old.taken alignment size place
   pub offset_is : offset ≡ place % old.size
   pub state : new ≡ record old { taken = place + size - old.tail; current = with_piece old.current (place + size - (old.tail + old.taken)) }
 
 -- refused exactly where the ring is full for it, and then nothing changes
-abbrev pub Allocates : RingState → (size alignment : ℕ) → Option ℕ → RingState → Type 0
-Allocates old size alignment None new = IsFull old.size old.tail old.taken alignment size × (new ≡ old)
-Allocates old size alignment (Some offset) new = Places old size alignment offset new
+abbrev pub RingAllocates : RingState → (size alignment : ℕ) → Option ℕ → RingState → Type 0
+RingAllocates old size alignment None new = IsFull old.size old.tail old.taken alignment size × (new ≡ old)
+RingAllocates old size alignment (Some offset) new = Places old size alignment offset new
 
 -- ---- end_frame
 

@@ -13,7 +13,7 @@ pub record IsNext (ring alignment head size place : ℕ) : Type 0 where
   pub least : (p : ℕ) → MayBegin ring alignment head size p → place ≤ p
 
 -- the request is served at a place: the first one, and its end doesn't pass the tail, a whole ring on
-pub record IsServed (ring tail taken alignment size place : ℕ) : Type 0 where
+pub record IsRingServed (ring tail taken alignment size place : ℕ) : Type 0 where
   pub next : IsNext ring alignment (tail + taken) size place
   pub room : place + size ≤ tail + ring
 

@@ -1,6 +1,6 @@
 -- Lists of calls whose requests keep to bounds: which ring serves all of them.
 use Rattle.std.specs.Prelude.{ℕ, ◌+◌, ◌-◌, ◌<◌, ◌≤◌, List, [], ◌∷◌, ◌++◌, length, drop, Bool, true, false, Option, Some, None, IsSome}
-use Rattle.gpu_ring.specs.Calls.{Allocates, EndsFrame, Retires, frames_up_to}
+use Rattle.gpu_ring.specs.Calls.{RingAllocates, EndsFrame, Retires, frames_up_to}
 use Rattle.gpu_ring.specs.RingState.{RingState}
 use Rattle.gpu_ring.specs.declared.ring.Frame.{Frame}
 
@@ -41,7 +41,7 @@ module _ (most most_a_frame most_frames : ℕ) where
   ServesAll [] s = Unit {0}
   ServesAll (Request size alignment ∷ calls) s =
       0 < size → 0 < alignment → cost size alignment ≤ most → s.current + cost size alignment ≤ most_a_frame
-      → (answer : Option ℕ) (new : RingState) → Allocates s.ring size alignment answer new → IsSome answer × ServesAll calls (after_request s size alignment new)
+      → (answer : Option ℕ) (new : RingState) → RingAllocates s.ring size alignment answer new → IsSome answer × ServesAll calls (after_request s size alignment new)
   ServesAll (End ∷ calls) s =
       length s.frames < most_frames → (answer : Option Frame) (new : RingState) → EndsFrame s.ring answer new → ServesAll calls (after_end s answer new)
   ServesAll (Retire frame ∷ calls) s = (answer : Bool) (new : RingState) → Retires s.ring frame answer new → ServesAll calls (after_retire s frame answer new)

@@ -2,7 +2,7 @@
 
 ghost use Rattle.std.specs.Prelude.{ℕ, ◌+◌, ◌-◌, ◌*◌, ◌<◌, ◌≤◌, List, []};
 ghost use Rattle.gpu_ring.specs.Calls.{empty_ring};
-ghost use Rattle.gpu_ring.specs.Line.{IsServed, IsFull, IsFed};
+ghost use Rattle.gpu_ring.specs.Line.{IsRingServed, IsFull, IsFed};
 ghost use Rattle.gpu_ring.specs.Runs.{Call, ServesAll};
 
 /// A ring that never refuses: where no request counts more than `most` (its size and its alignment, less 1), those of a frame no more than
@@ -34,6 +34,6 @@ pub fn served_request_counts(ring: u64, tail: u64, taken: u64, size: u64, alignm
     requires sized { 0 < size }
     requires aligned { 0 < alignment }
     ensures { (most start cost place : ℕ) → tail ≤ start → start ≤ tail + taken → size + alignment ≤ most + 1
-        → IsServed ring tail taken alignment size place → IsFed ring most start (tail + taken - start) cost
+        → IsRingServed ring tail taken alignment size place → IsFed ring most start (tail + taken - start) cost
         → IsFed ring most start (place + size - start) (cost + size + alignment - 1) }
 {}

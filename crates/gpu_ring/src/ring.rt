@@ -1,7 +1,7 @@
 //! The ring: frames in flight, oldest first, and the open one.
 
 ghost use Rattle.std.specs.Prelude.{◌≡◌, ℕ, ◌+◌, ◌-◌, ◌*◌, ◌%◌, ◌^◌, ◌<◌, ◌≤◌, ◌↔◌, Some, length, take, drop, slice_get, IfOk, IfSome, IsSome, IsTrue, MatchOption};
-ghost use Rattle.gpu_ring.specs.Calls.{empty_ring, Allocates, EndsFrame, Retires, IsInFlight, bytes_up_to};
+ghost use Rattle.gpu_ring.specs.Calls.{empty_ring, RingAllocates, EndsFrame, Retires, IsInFlight, bytes_up_to};
 ghost use Rattle.gpu_ring.specs.Line.{IsTaken, IsTakenAt, Apart};
 ghost use Rattle.gpu_ring.specs.RingState.{bytes_of};
 ghost use Rattle.gpu_ring.specs.Stretch.{stretch_of};
@@ -112,7 +112,7 @@ impl Ring {
     pub fn allocate(&mut self, size: u64, alignment: u64) -> Option<u64>
         requires sized { 0 < size }
         requires aligned { 0 < alignment }
-        ensures allocates { Allocates self.old size alignment result self.new }
+        ensures allocates { RingAllocates self.old size alignment result self.new }
         // the law that a ring is sized by
         ensures enough { self.old.taken + 2 * size + alignment ≤ self.old.size + 2
             → IsSome result }

@@ -10,7 +10,7 @@ use Rattle.gpu_device.specs.declared.d3d12.types.ID3D12Heap.{ID3D12Heap}
 use Rattle.gpu_d3d12.specs.HeapAnswer.{HeapAnswer, Granted, Declined, Null, told_answer}
 use Rattle.gpu_d3d12.specs.declared.describe.AllocationCreateDesc.{AllocationCreateDesc}
 use Rattle.gpu_d3d12.specs.Setup.{kinds_of_device}
-use Rattle.gpu_pool.specs.Allocate.{RequestAt, Environment, NothingMet, NoHostMemory, Answered, Serves}
+use Rattle.gpu_pool.specs.Allocate.{RequestAt, Environment, NothingMet, NoHostMemory, Answered, PoolServes}
 use Rattle.gpu_pool.specs.Free as pools
 use Rattle.gpu_pool.specs.Move.{ProposesBy}
 use Rattle.gpu_pool.specs.Rename.{RenamesBy}
@@ -66,7 +66,7 @@ module _ (basis : Basis) where
   }
 
   serves_sees : (q : RequestAt (Unit {0})) (old : PoolModel) (met : Environment ID3D12Heap) (answer : Result (Piece ID3D12Heap) Refusal) (new : PoolModel)
-      → Serves (kinds_of_device basis.tier) (SeesQuestion basis.tier) q old met answer new → Sees met old.source new.source
+      → PoolServes (kinds_of_device basis.tier) (SeesQuestion basis.tier) q old met answer new → Sees met old.source new.source
   serves_sees q old NothingMet (Ok p) new h = quiet_sees old.source new.source (ap (λ s. s.source) h.state)
   serves_sees q old NothingMet (Err e) new h = quiet_sees old.source new.source (ap (λ s. s.source) h.1)
   serves_sees q old NoHostMemory (Err e) new h = host_sees old.source new.source (ap (λ s. s.source) h.1)
@@ -79,7 +79,7 @@ module _ (basis : Basis) where
   gone_sees old new (Some heap) h = record { count = ap (λ s. refused_in s.history) h; beside = ap (λ s. s.beside) h }
 
   pub freed_sees : (t : ℕ) (p : Piece ID3D12Heap) (old : PoolModel) (answer : Result (Unit {0}) Refusal) (new : PoolModel)
-      → pools.Frees SeesHeapFreed is_same_heap t p old answer new → Sees NothingMet old.source new.source
+      → pools.PoolFrees SeesHeapFreed is_same_heap t p old answer new → Sees NothingMet old.source new.source
   freed_sees t p old (Ok _) new h = gone_sees old.source new.source h.1.went h.1.source
   freed_sees t p old (Err e) new h = quiet_sees old.source new.source (ap (λ s. s.source) h.2)
 

@@ -19,7 +19,7 @@ use Rattle.gpu_device.specs.declared.d3d12.types.ID3D12Heap.{ID3D12Heap}
 use Rattle.gpu_device.proofs.Maps.{get-insert_same, get-insert_other}
 use Rattle.gpu_device.proofs.HeapsAndResources.{get-without_resource_other}
 use Rattle.gpu_d3d12.specs.Heaps.{is_host}
-use Rattle.gpu_d3d12.specs.MemoryKinds.{memory_kinds, Serves}
+use Rattle.gpu_d3d12.specs.MemoryKinds.{memory_kinds, KindServes}
 use Rattle.gpu_d3d12.specs.ResourceAnswer.{ResourceAnswer, Granted, Declined, Null, Texts, resource_number, told_answer, placed_texts, committed_texts}
 use Rattle.gpu_d3d12.specs.Setup.{kinds_of_device}
 use Rattle.gpu_d3d12.specs.declared.question.ResourceCreateDesc.{ResourceCreateDesc}
@@ -185,7 +185,7 @@ module _ (basis : Basis) (d : ResourceCreateDesc) where
         record {
           held = adds_number d old.pool.source question _ _ a new.pool.source r.resource.0 asked new_one.0.2;
           kept = λ none many.
-              let below = below_some (memory_kinds basis.tier) c.memory_type (λ k. Serves d.memory_location d.resource_category k) c.first.serves in
+              let below = below_some (memory_kinds basis.tier) c.memory_type (λ k. KindServes d.memory_location d.resource_category k) c.first.serves in
               let told_many = length-map {B = Bool × ℕ} (memory_kinds basis.tier) (λ k. (is_host k, 1)) in
               let there : records_at new.committed c.memory_type ≡ c.left =
               ap (λ k. records_at k c.memory_type) c.committed ∙ get_or-set_same old.committed c.memory_type c.left [] (omega (arith, below, many, told_many)) in

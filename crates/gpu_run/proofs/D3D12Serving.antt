@@ -20,7 +20,7 @@ use Rattle.gpu_run.specs.Bindings.{bindings_of}
 use Rattle.gpu_block_session.specs.CommandList.{IsRun}
 use Rattle.gpu_run.specs.D3D12Command.{KeyCommand, ResourceCommand, SessionCommand, Under, UnderResource}
 use Rattle.gpu_run.specs.D3D12Reply.{SessionReply}
-use Rattle.gpu_run.specs.D3D12Session.{SessionState, CommandEnvironment, refused_after, ServesAt, ServesResourceAt, Serves, Asks, reply_by}
+use Rattle.gpu_run.specs.D3D12Session.{SessionState, CommandEnvironment, refused_after, ServesAt, ServesResourceAt, SessionServes, Asks, reply_by}
 use Rattle.gpu_run.specs.D3D12Served.{SessionValue, session_of, IsConstant, IsAnswered, ServesCommand, journal_after}
 use Rattle.gpu_run.specs.declared.d3d12.command.Command.{Command}
 use Rattle.gpu_run.specs.declared.d3d12.reply.Reply.{Reply}
@@ -35,11 +35,11 @@ abbrev pub short : CommandEnvironment
 short = record { room = false; met = nothing_met }
 
 pub serves_at : (b : Basis) (s new : SessionState) (key : ℕ) (command : KeyCommand) (o : CommandEnvironment) (reply : SessionReply) (found : Option Allocation) → s.bound key ≡ found
-    → ServesAt b key found command o reply s new → Serves b (Under key command) o reply s new
+    → ServesAt b key found command o reply s new → SessionServes b (Under key command) o reply s new
 serves_at b s new key command o reply found e h = subst (λ f. ServesAt b key f command o reply s new) (sym e) h
 
 pub serves_resource_at : (b : Basis) (s new : SessionState) (key : ℕ) (command : ResourceCommand) (o : CommandEnvironment) (reply : SessionReply) (found : Option Resource) → s.resources key ≡ found
-    → ServesResourceAt b key found command o reply s new → Serves b (UnderResource key command) o reply s new
+    → ServesResourceAt b key found command o reply s new → SessionServes b (UnderResource key command) o reply s new
 serves_resource_at b s new key command o reply found e h = subst (λ f. ServesResourceAt b key f command o reply s new) (sym e) h
 
 pub distinct_sym : (a b : Allocation) → AreDistinct a b → AreDistinct b a
@@ -71,7 +71,7 @@ module _ {D : Type 0} (g : Ghosts D) where
 
   -- the allocator isn't called
   pub answered_quietly : (old new : SessionValue D) (command : SessionCommand) (reply : SessionReply) (o : CommandEnvironment) → new.allocator ≡ old.allocator → o.met ≡ nothing_met
-      → Serves (basis_of g old.allocator) command o reply (session_of g old) (session_of g new)
+      → SessionServes (basis_of g old.allocator) command o reply (session_of g old) (session_of g new)
       → journal_after command reply (bindings_of old.resources) old.allocator.journal ≡ old.allocator.journal
       → IsAnswered g command reply old new
   answered_quietly old new command reply o same unmet serves journal = record {
@@ -89,7 +89,7 @@ module _ {D : Type 0} (g : Ghosts D) where
   pub answered_by : ((d : D) → g.refused d ≡ refused_in (g.history d)) → (command : SessionCommand) (reply : SessionReply) (o : CommandEnvironment) (old new : SessionValue D)
       → refusals (model_of g new.allocator) ≡ refused_after o.met (refusals (model_of g old.allocator))
       → TellsReason g o.met.resource (pool_of new.allocator).source → IsConstant g old new
-      → Serves (basis_of g old.allocator) command o reply (session_of g old) (session_of g new)
+      → SessionServes (basis_of g old.allocator) command o reply (session_of g old) (session_of g new)
       → new.allocator.journal ≡ journal_after command reply (bindings_of old.resources) old.allocator.journal
       → IsAnswered g command reply old new
   answered_by law command reply o old new count reason constant serves journal = record {
@@ -106,7 +106,7 @@ module _ {D : Type 0} (g : Ghosts D) where
   -- the same of a call that asks for no resource
   pub answered_apart : ((d : D) → g.refused d ≡ refused_in (g.history d)) → (command : SessionCommand) (reply : SessionReply) (o : CommandEnvironment) (old new : SessionValue D)
       → Leaves (basis_of g old.allocator) o.met (model_of g old.allocator) (model_of g new.allocator) → IsConstant g old new
-      → Serves (basis_of g old.allocator) command o reply (session_of g old) (session_of g new)
+      → SessionServes (basis_of g old.allocator) command o reply (session_of g old) (session_of g new)
       → new.allocator.journal ≡ journal_after command reply (bindings_of old.resources) old.allocator.journal
       → IsAnswered g command reply old new
   answered_apart law command reply o old new leaves constant serves journal =
@@ -118,7 +118,7 @@ module _ {D : Type 0} (g : Ghosts D) where
       → (step : IsStep g call model_reply old.allocator new.allocator)
       → Leaves (basis_of g old.allocator) step.environment (model_of g old.allocator) (model_of g new.allocator)
       → (Asks (basis_of g old.allocator) call step.environment reply (session_of g old) (session_of g new)
-      → Serves (basis_of g old.allocator) command (record { room = true; met = step.environment }) reply (session_of g old) (session_of g new))
+      → SessionServes (basis_of g old.allocator) command (record { room = true; met = step.environment }) reply (session_of g old) (session_of g new))
       → new.allocator.journal ≡ journal_after command reply (bindings_of old.resources) old.allocator.journal
       → IsAnswered g command reply old new
   told law call model_reply reply command old new is same also first setup step leaves serves journal =

@@ -13,7 +13,7 @@ use Rattle.gpu_metal.specs.MemoryKinds.{heap_descriptor}
 use Rattle.gpu_metal.specs.Residency.{release_recorded, commit_recorded}
 use Rattle.gpu_metal.specs.Setup.{kinds_of_device}
 use Rattle.gpu_metal.specs.declared.describe.AllocationCreateDesc.{AllocationCreateDesc}
-use Rattle.gpu_pool.specs.Allocate.{RequestAt, Environment, NothingMet, NoHostMemory, Answered, Serves}
+use Rattle.gpu_pool.specs.Allocate.{RequestAt, Environment, NothingMet, NoHostMemory, Answered, PoolServes}
 use Rattle.gpu_pool.specs.Free as pools
 use Rattle.gpu_pool.specs.Allocation.{piece_of}
 use Rattle.gpu_pool.specs.Move.{ProposesBy}
@@ -55,7 +55,7 @@ stays : (old new : Model) → new ≡ old → refusals new ≡ refusals old
 stays old new same = ap refusals same
 
 serves_counts : (q : RequestAt (Unit {0})) (old : Model) (met : Environment MTLHeap) (answer : Result (Piece MTLHeap) Refusal) (new : Model)
-    → Serves kinds_of_device SeesQuestion q old met answer new → refusals new ≡ refused_after met (refusals old)
+    → PoolServes kinds_of_device SeesQuestion q old met answer new → refusals new ≡ refused_after met (refusals old)
 serves_counts q old NothingMet (Ok p) new h = ap refusals h.state
 serves_counts q old NothingMet (Err e) new h = stays old new h.1
 serves_counts q old NoHostMemory (Err e) new h = stays old new h.1
@@ -73,7 +73,7 @@ gone_counts old new None h = ap (λ s. refused_in s.history) h
 gone_counts old new (Some heap) h = ap (λ s. refused_in s.history) h ∙ release_counts old.set heap old.history
 
 free_counts : (t : ℕ) (p : Piece MTLHeap) (old : Model) (answer : Result (Unit {0}) Refusal) (new : Model)
-    → pools.Frees SeesHeapFreed is_same_heap t p old answer new → refusals new ≡ refusals old
+    → pools.PoolFrees SeesHeapFreed is_same_heap t p old answer new → refusals new ≡ refusals old
 free_counts t p old (Ok _) new h = gone_counts old.source new.source h.1.went h.1.source
 free_counts t p old (Err e) new h = stays old new h.2
 

@@ -18,7 +18,7 @@ use Rattle.gpu_run.specs.Bindings.{bindings_of}
 use Rattle.gpu_block_session.specs.CommandList.{IsRun}
 use Rattle.gpu_run.specs.MetalCommand.{KeyCommand, SessionCommand, Under, Heaps}
 use Rattle.gpu_run.specs.MetalReply.{SessionReply}
-use Rattle.gpu_run.specs.MetalSession.{SessionState, SessionInvariant, IsOwn, CommandEnvironment, refused_after, ServesAt, Serves, Asks, reply_by, reply_to_heaps}
+use Rattle.gpu_run.specs.MetalSession.{SessionState, SessionInvariant, IsOwn, CommandEnvironment, refused_after, ServesAt, SessionServes, Asks, reply_by, reply_to_heaps}
 use Rattle.gpu_run.specs.MetalServed.{SessionValue, session_of, IsConstant, IsAnswered, ServesCommand}
 use Rattle.gpu_run.specs.declared.metal.command.Command.{Command}
 use Rattle.gpu_run.specs.declared.metal.reply.Reply.{Reply}
@@ -33,7 +33,7 @@ abbrev pub short : CommandEnvironment
 short = record { room = false; met = NothingMet }
 
 pub serves_at : (p : Properties) (s new : SessionState) (key : ℕ) (command : KeyCommand) (o : CommandEnvironment) (reply : SessionReply) (found : Option Allocation) → s.bound key ≡ found
-    → ServesAt p key found command o reply s new → Serves p (Under key command) o reply s new
+    → ServesAt p key found command o reply s new → SessionServes p (Under key command) o reply s new
 serves_at p s new key command o reply found e h = subst (λ f. ServesAt p key f command o reply s new) (sym e) h
 
 pub distinct_sym : (a b : Allocation) → AreDistinct a b → AreDistinct b a
@@ -42,7 +42,7 @@ distinct_sym a b h = λ x y z. h (sym x) (sym y) (sym z)
 module _ {D : Type 0} (g : Ghosts D) where
   -- the allocator isn't called
   pub answered_quietly : (allocator : State D) (bound after : List (ℕ × Allocation)) (command : SessionCommand) (reply : SessionReply) (o : CommandEnvironment) → o.met ≡ NothingMet
-      → Serves (g.properties allocator.first) command o reply (session_of g (record { allocator = allocator; bound = bound })) (session_of g (record { allocator = allocator; bound = after }))
+      → SessionServes (g.properties allocator.first) command o reply (session_of g (record { allocator = allocator; bound = bound })) (session_of g (record { allocator = allocator; bound = after }))
       → IsAnswered g command reply (record { allocator = allocator; bound = bound }) (record { allocator = allocator; bound = after })
   answered_quietly allocator bound after command reply o unmet serves = record {
     served = record { environment = o; serves = serves; count = ap (λ m. refused_after m (g.refused allocator.device)) (sym unmet) };
@@ -52,7 +52,7 @@ module _ {D : Type 0} (g : Ghosts D) where
   -- the allocator's call is a step
   pub answered_by : ((d : D) → g.refused d ≡ refused_in (g.history d)) → (call : model.Call) (model_reply : answers.Reply MTLHeap) (command : SessionCommand) (reply : SessionReply) (o : CommandEnvironment) (old new : SessionValue D)
       → Step call o.met model_reply (model_of g old.allocator) (model_of g new.allocator) → IsConstant g old new
-      → Serves (g.properties old.allocator.first) command o reply (session_of g old) (session_of g new) → IsAnswered g command reply old new
+      → SessionServes (g.properties old.allocator.first) command o reply (session_of g old) (session_of g new) → IsAnswered g command reply old new
   answered_by law call model_reply command reply o old new step constant serves = record {
     served = record {
       environment = o;
@@ -91,7 +91,7 @@ module _ {D : Type 0} (g : Ghosts D) where
   -- what the allocator replied to a call that is no one number's is handed on
   pub told : ((d : D) → g.refused d ≡ refused_in (g.history d)) → (call : model.Call) (model_reply : answers.Reply MTLHeap) (reply : SessionReply) (command : SessionCommand) (old new : SessionValue D)
       → reply_by model_reply ≡ Some reply → new.bound ≡ old.bound → IsConstant g old new → (step : IsStep g call model_reply old.allocator new.allocator)
-      → (Asks call step.0 reply (session_of g old) (session_of g new) → Serves (g.properties old.allocator.first) command (record { room = true; met = step.0 }) reply (session_of g old) (session_of g new))
+      → (Asks call step.0 reply (session_of g old) (session_of g new) → SessionServes (g.properties old.allocator.first) command (record { room = true; met = step.0 }) reply (session_of g old) (session_of g new))
       → IsAnswered g command reply old new
   told law call model_reply reply command old new is same constant step serves =
       answered_by law call model_reply command reply (record { room = true; met = step.0 }) old new step.1 constant (serves (asks call model_reply reply old new is same step))

@@ -12,7 +12,7 @@ use Rattle.gpu_vulkan.proofs.KeptBudgets.{keeps_budgets}
 use Rattle.gpu_vulkan.proofs.EqualButBytes.{step_alike}
 use Rattle.gpu_run.specs.VulkanCommand.{Wanted, KeyCommand, Alloc, Move, Null, Free, Rename, Write, Read, SessionCommand, Under, Report, Leaks, Capacity, SetBudget}
 use Rattle.gpu_run.specs.VulkanReply.{SessionReply}
-use Rattle.gpu_run.specs.VulkanSession.{SessionState, CommandEnvironment, ServesAlloc, ServesMoveTo, ServesMove, ServesNull, Asks, WritesIn, WritesOver, ServesBound, ServesUnbound, ServesAt, Serves}
+use Rattle.gpu_run.specs.VulkanSession.{SessionState, CommandEnvironment, ServesAlloc, ServesMoveTo, ServesMove, ServesNull, Asks, WritesIn, WritesOver, ServesBound, ServesUnbound, ServesAt, SessionServes}
 use Rattle.gpu_run.specs.VulkanLaws.{EqualButBytesCommand, EqualButBytesCommandEnvironment}
 
 abbrev budgets_of : SessionState → List (Option ℕ)
@@ -80,12 +80,12 @@ module _ (ours : ℕ → Bool) (setup : Setup) (s t new next : SessionState) (o 
       (step_alike setup o.call p.call h.model_reply k.model_reply s.model new.model t.model next.model sound slots budgets met.call call call (alike call refl) h.step k.step).1.1
 
   -- commands that differ at most in bytes leave the same budgets
-  pub budgets_next : (command other : SessionCommand) → EqualButBytesCommand ours command other → Serves setup command o reply s new → Serves setup other p other_reply t next → new.model.budgets ≡
+  pub budgets_next : (command other : SessionCommand) → EqualButBytesCommand ours command other → SessionServes setup command o reply s new → SessionServes setup other p other_reply t next → new.model.budgets ≡
       next.model.budgets
   budgets_next (Under key command) (Under to other) e h k =
       under_kept setup key (s.bound key) command o reply s new h ∙ budgets ∙ sym (under_kept setup to (t.bound to) other p other_reply t next k)
-  budgets_next Report other e h k = same_call model.Report (λ z f. f) h (subst (λ z. Serves setup z p other_reply t next) (sym e) k)
-  budgets_next Leaks other e h k = same_call model.Leaks (λ z f. f) h (subst (λ z. Serves setup z p other_reply t next) (sym e) k)
-  budgets_next Capacity other e h k = same_call model.Capacity (λ z f. f) h (subst (λ z. Serves setup z p other_reply t next) (sym e) k)
-  budgets_next (SetBudget u budget) other e h k = same_call (model.SetBudget u budget) (λ z f. f) h (subst (λ z. Serves setup z p other_reply t next) (sym e) k)
+  budgets_next Report other e h k = same_call model.Report (λ z f. f) h (subst (λ z. SessionServes setup z p other_reply t next) (sym e) k)
+  budgets_next Leaks other e h k = same_call model.Leaks (λ z f. f) h (subst (λ z. SessionServes setup z p other_reply t next) (sym e) k)
+  budgets_next Capacity other e h k = same_call model.Capacity (λ z f. f) h (subst (λ z. SessionServes setup z p other_reply t next) (sym e) k)
+  budgets_next (SetBudget u budget) other e h k = same_call (model.SetBudget u budget) (λ z f. f) h (subst (λ z. SessionServes setup z p other_reply t next) (sym e) k)
   budgets_next command call e h k = absurd (cc)

@@ -19,7 +19,7 @@ use Rattle.gpu_run.specs.VulkanCommand.{Wanted, Describes, Move, Under}
 use Rattle.gpu_run.specs.VulkanReply.{SessionReply}
 use Rattle.gpu_run.specs.Bindings.{bind, bindings_of}
 use Rattle.gpu_run.specs.VulkanSession.{CommandEnvironment, BindsPlace, ServesMove}
-use Rattle.gpu_run.specs.VulkanServed.{SessionValue, session_of, shown_allocation, IsServed}
+use Rattle.gpu_run.specs.VulkanServed.{SessionValue, session_of, shown_allocation, IsCommandServed}
 use Rattle.gpu_run.proofs.VulkanServing.{serves_at}
 use Rattle.gpu_run.proofs.VulkanTaking.{shown_same}
 
@@ -43,7 +43,7 @@ failed_reply setup d e reply h = absurd h
 module _ {D : Type 0} (g : Ghosts D) (old new : SessionValue D) (key to : ℕ) (w : Wanted) (d : AllocationCreateDesc) (wants : Describes d w) (a : Allocation)
     (found : bindings_of old.bound key ≡ Some a) (none : bindings_of old.bound to ≡ None) (others : new.allocator ≡ record old.allocator { slots = new.allocator.slots }) where
   proposed : (model_reply : answers.Reply) (reply : SessionReply) → IsStep g (model.ProposeMove a d) model_reply old.allocator new.allocator
-      → BindsPlace old.allocator.setup to w d model_reply reply (bindings_of old.bound) (bindings_of new.bound) → IsServed g (Under key (Move to w)) reply old new
+      → BindsPlace old.allocator.setup to w d model_reply reply (bindings_of old.bound) (bindings_of new.bound) → IsCommandServed g (Under key (Move to w)) reply old new
   proposed model_reply reply step binds =
       let o : CommandEnvironment = record { room = true; call = step.environment } in
       let serves : ServesMove old.allocator.setup to None a w o reply (session_of g old) (session_of g new) =
@@ -60,13 +60,13 @@ module _ {D : Type 0} (g : Ghosts D) (old new : SessionValue D) (key to : ℕ) (
 
   -- the allocator refused it
   pub not_proposed : (e : AllocationError) → bindings_of new.bound ≡ bindings_of old.bound → IsMoveStep g a d (Err e) old.allocator new.allocator
-      → IsServed g (Under key (Move to w)) (replies.Error (refusal_of e)) old new
+      → IsCommandServed g (Under key (Move to w)) (replies.Error (refusal_of e)) old new
   not_proposed e same s =
       proposed (answers.Error (refusal_of e)) (replies.Error (refusal_of e))
       (subst (λ r. IsStep g (model.ProposeMove a d) r old.allocator new.allocator) (failed_reply old.allocator.setup d e s.reply s.replies) s.step) (refl, same)
 
   -- no block ahead has a place
-  pub no_place : bindings_of new.bound ≡ bindings_of old.bound → IsMoveStep g a d (Ok None) old.allocator new.allocator → IsServed g (Under key (Move to w)) replies.NoPlace old new
+  pub no_place : bindings_of new.bound ≡ bindings_of old.bound → IsMoveStep g a d (Ok None) old.allocator new.allocator → IsCommandServed g (Under key (Move to w)) replies.NoPlace old new
   no_place same s =
       let is = none_reply old.allocator.setup d s.reply s.replies in
       proposed (answers.SecondPlace is.0 None) replies.NoPlace
@@ -74,7 +74,7 @@ module _ {D : Type 0} (g : Ghosts D) (old new : SessionValue D) (key to : ℕ) (
 
   -- one has
   pub placed : (b : Allocation) (reply : SessionReply) → bindings_of new.bound ≡ bind (bindings_of old.bound) to (Some b) → IsMoveStep g a d (Ok (Some b)) old.allocator new.allocator
-      → reply ≡ replies.Allocated (shown_allocation b) → IsServed g (Under key (Move to w)) reply old new
+      → reply ≡ replies.Allocated (shown_allocation b) → IsCommandServed g (Under key (Move to w)) reply old new
   placed b reply same s is_told =
       let is = place_reply old.allocator.setup d b s.reply s.replies in
       proposed (answers.SecondPlace is.0 (Some is.1)) reply

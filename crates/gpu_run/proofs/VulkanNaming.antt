@@ -17,7 +17,7 @@ use Rattle.gpu_run.specs.VulkanCommand.{Under, Rename}
 use Rattle.gpu_run.specs.VulkanReply.{SessionReply}
 use Rattle.gpu_run.specs.Bindings.{bind}
 use Rattle.gpu_run.specs.VulkanSession.{CommandEnvironment}
-use Rattle.gpu_run.specs.VulkanServed.{SessionValue, session_of, IsServed}
+use Rattle.gpu_run.specs.VulkanServed.{SessionValue, session_of, IsCommandServed}
 use Rattle.gpu_run.specs.Bindings.{bindings_of}
 use Rattle.gpu_run.proofs.Binding.{bind_same}
 use Rattle.gpu_run.proofs.VulkanServing.{serves_at}
@@ -33,7 +33,7 @@ same_of a b (Some p) name e old new h = h.1
 module _ {D : Type 0} (g : Ghosts D) (old new : SessionValue D) (key : ℕ) (name : List ℕ) (a b : Allocation) (reply : SessionReply) (found : bindings_of old.bound key ≡ Some a)
     (is : bindings_of new.bound ≡ bind (bindings_of old.bound) key (Some b)) (constant : (new.allocator.setup ≡ old.allocator.setup) × (new.allocator.first ≡ old.allocator.first))
     (device : new.allocator.device ≡ old.allocator.device) where
-  pub renamed : IsNamed a name b → reply ≡ replies.Done → IsStep g (model.Rename a name) answers.Done old.allocator new.allocator → IsServed g (Under key (Rename name)) reply old new
+  pub renamed : IsNamed a name b → reply ≡ replies.Done → IsStep g (model.Rename a name) answers.Done old.allocator new.allocator → IsCommandServed g (Under key (Rename name)) reply old new
   renamed named fine step =
       let o : CommandEnvironment = record { room = true; call = step.environment } in
       record {
@@ -46,7 +46,7 @@ module _ {D : Type 0} (g : Ghosts D) (old new : SessionValue D) (key : ℕ) (nam
         constant = constant;
       }
 
-  pub not_renamed : (e : AllocationError) → b ≡ a → reply ≡ replies.Error (refusal_of e) → IsStep g (model.Rename a name) (answers.Error (refusal_of e)) old.allocator new.allocator → IsServed g
+  pub not_renamed : (e : AllocationError) → b ≡ a → reply ≡ replies.Error (refusal_of e) → IsStep g (model.Rename a name) (answers.Error (refusal_of e)) old.allocator new.allocator → IsCommandServed g
       (Under key (Rename name)) reply old new
   not_renamed e same fails step =
       let o : CommandEnvironment = record { room = true; call = step.environment } in

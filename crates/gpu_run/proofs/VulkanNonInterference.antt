@@ -23,8 +23,8 @@ use Rattle.gpu_vulkan.specs.declared.describe.AllocationCreateDesc.{AllocationCr
 use Rattle.gpu_vulkan.proofs.EqualButBytes.{step_alike}
 use Rattle.gpu_run.specs.VulkanCommand.{Wanted, Describes, KeyCommand, Alloc, Move, Null, Free, Rename, Write, Read, SessionCommand, Under, Report, Leaks, Capacity, SetBudget}
 use Rattle.gpu_run.specs.VulkanReply.{SessionReply, Allocated, Done, Bytes, Busy, Unbound, NoPlace, Unmapped, OutOfRange, Error}
-use Rattle.gpu_run.specs.VulkanSession.{SessionState, SessionInvariant, shown, CommandEnvironment, Stays, Binds, BindsPlace, ServesAlloc, ServesMoveTo, ServesMove, ServesNull, Frees, BindsNamed, Renames, overwritten, WritesIn}
-use Rattle.gpu_run.specs.VulkanSession.{WritesOver, WritesAt, reply_to_part, reply_to_read, ReadsAt, ServesBound, ServesUnbound, ServesAt, reply_by, Asks, Serves, Runs}
+use Rattle.gpu_run.specs.VulkanSession.{SessionState, SessionInvariant, shown, CommandEnvironment, Stays, Binds, BindsPlace, ServesAlloc, ServesMoveTo, ServesMove, ServesNull, SessionFrees, BindsNamed, Renames, overwritten, WritesIn}
+use Rattle.gpu_run.specs.VulkanSession.{WritesOver, WritesAt, reply_to_part, reply_to_read, ReadsAt, ServesBound, ServesUnbound, ServesAt, reply_by, Asks, SessionServes, Runs}
 use Rattle.gpu_run.specs.VulkanLaws.{EqualButBytesKeyCommand, EqualButBytesCommand, EqualButBytesCommandEnvironment, Written, everything, written_after, EqualButBytesAnswer}
 use Rattle.gpu_run.specs.VulkanLaws.{EqualButBytesReplies, NonInterference}
 use Rattle.gpu_run.proofs.Binding.{bound_here}
@@ -228,7 +228,7 @@ module _ (ours : ℕ → Bool) (written : Written) (setup : Setup) (s t new next
 
   -- ---- an allocation goes
 
-  return_both : (key : ℕ) (a b : Allocation) → handle a ≡ handle b → s.bound key ≡ Some a → Frees setup key a o.call reply s new → Frees setup key b p.call other_reply t next → Next ours written
+  return_both : (key : ℕ) (a b : Allocation) → handle a ≡ handle b → s.bound key ≡ Some a → SessionFrees setup key a o.call reply s new → SessionFrees setup key b p.call other_reply t next → Next ours written
       (Under key Free) reply other_reply new next
   return_both key a b same found h k =
       let step = free_as setup a b p.call t.model next.model same k.step in
@@ -455,26 +455,26 @@ module _ (ours : ℕ → Bool) (written : Written) (setup : Setup) (s t new next
       let once = step_alike setup o.call p.call x y s.model new.model t.model next.model kept.sound alike.slots budgets met.call call call (same call refl) h k in
       (once.0, once.1.0)
 
-  step_next : (command other : SessionCommand) → EqualButBytesCommand ours command other → Serves setup command o reply s new → Serves setup other p other_reply t next → Next ours written command
+  step_next : (command other : SessionCommand) → EqualButBytesCommand ours command other → SessionServes setup command o reply s new → SessionServes setup other p other_reply t next → Next ours written command
       reply other_reply new next
   step_next (Under key command) (Under to deed2) e h k =
-      let k2 = subst (λ z. Serves setup (Under z deed2) p other_reply t next) (sym e.0) k in
+      let k2 = subst (λ z. SessionServes setup (Under z deed2) p other_reply t next) (sym e.0) k in
       under_both key command deed2 (s.bound key) (t.bound key) e.1 (alike.bound key) refl h k2
   step_next Report other e h k =
       let both = asks_both model.Report (λ z x y w a. ap (λ q. q.byte_view) (shown_same setup z x y w a)) (lawful model.Report (λ z f. f)) h
-      (subst (λ z. Serves setup z p other_reply t next) (sym e) k) in
+      (subst (λ z. SessionServes setup z p other_reply t next) (sym e) k) in
       record { reply_alike = both.0; alike = both.1 }
   step_next Leaks other e h k =
-      let both = asks_both model.Leaks (λ z x y w a. ap (λ q. q.byte_view) (told_same setup z x y w a)) (lawful model.Leaks (λ z f. f)) h (subst (λ z. Serves setup z p other_reply t next) (sym e) k)
+      let both = asks_both model.Leaks (λ z x y w a. ap (λ q. q.byte_view) (told_same setup z x y w a)) (lawful model.Leaks (λ z f. f)) h (subst (λ z. SessionServes setup z p other_reply t next) (sym e) k)
       in
       record { reply_alike = both.0; alike = both.1 }
   step_next Capacity other e h k =
       let both = asks_both model.Capacity (λ z x y w a. ap (λ q. q.byte_view) (summed_same setup z x y w a)) (lawful model.Capacity (λ z f. f)) h
-      (subst (λ z. Serves setup z p other_reply t next) (sym e) k) in
+      (subst (λ z. SessionServes setup z p other_reply t next) (sym e) k) in
       record { reply_alike = both.0; alike = both.1 }
   step_next (SetBudget u budget) other e h k =
       let call = model.SetBudget u budget in
-      let both = asks_both call (budget_set_bytes setup u budget) (lawful call (λ z f. f)) h (subst (λ z. Serves setup z p other_reply t next) (sym e) k) in
+      let both = asks_both call (budget_set_bytes setup u budget) (lawful call (λ z f. f)) h (subst (λ z. SessionServes setup z p other_reply t next) (sym e) k) in
       record { reply_alike = both.0; alike = both.1 }
   step_next command call e h k = absurd (cc)
 

@@ -12,7 +12,7 @@ use Rattle.gpu_run.specs.VulkanReply as replies
 use Rattle.gpu_run.specs.VulkanCommand.{Under, Write, Read}
 use Rattle.gpu_run.specs.VulkanReply.{SessionReply}
 use Rattle.gpu_run.specs.VulkanSession.{CommandEnvironment, overwritten, reply_to_read, reply_to_part, WritesOver, WritesIn}
-use Rattle.gpu_run.specs.VulkanServed.{SessionValue, session_of, IsServed}
+use Rattle.gpu_run.specs.VulkanServed.{SessionValue, session_of, IsCommandServed}
 use Rattle.gpu_run.specs.Bindings.{bindings_of}
 use Rattle.gpu_run.proofs.VulkanRanges.{length_put}
 use Rattle.gpu_run.proofs.VulkanServing.{quiet, stayed, served_quietly, serves_at}
@@ -29,13 +29,13 @@ module _ {D : Type 0} (g : Ghosts D) (s : SessionValue D) (key at : ℕ) where
   -- a read that is reply something, with room for its bytes or not
   pub gets_bound : (size : ℕ) (a : Allocation) (bytes : Option (List ℕ)) (o : CommandEnvironment) (reply : SessionReply) → bindings_of s.bound key ≡ Some a → IsRead s.allocator.setup a
       (session_of g s).model bytes
-      → o.call ≡ quiet.call → reply ≡ reply_to_read o.room at size bytes → IsServed g (Under key (Read at size)) reply s s
+      → o.call ≡ quiet.call → reply ≡ reply_to_read o.room at size bytes → IsCommandServed g (Under key (Read at size)) reply s s
   gets_bound size a bytes o reply found read met is =
       served_quietly g key (Read at size) reply s o (Some a) met found (bytes, read, is, (subst (λ c. model.MeetsNothing c) (sym met) (refl, refl), refl))
 
   -- a write that is reply that nothing was done
   pub puts_nothing : (others : List ℕ) (a : Allocation) (bytes : Option (List ℕ)) (reply : SessionReply) → bindings_of s.bound key ≡ Some a → IsRead s.allocator.setup a (session_of g s).model bytes
-      → WritesOver s.allocator.setup a at others bytes quiet reply (session_of g s) (session_of g s) → IsServed g (Under key (Write at others)) reply s s
+      → WritesOver s.allocator.setup a at others bytes quiet reply (session_of g s) (session_of g s) → IsCommandServed g (Under key (Write at others)) reply s s
   puts_nothing others a bytes reply found read puts = served_quietly g key (Write at others) reply s quiet (Some a) refl found (bytes, read, puts)
 
 pub past_told : (room : Bool) (at size : ℕ) (xs : List ℕ) → nat_le (at + size) (length xs) ≡ false → reply_to_read room at size (Some xs) ≡ replies.OutOfRange
@@ -55,7 +55,7 @@ module _ {D : Type 0} (g : Ghosts D) (s : SessionValue D) (key at : ℕ) where
   pub puts_bound : (others : List ℕ) (a : Allocation) (xs ys zs : List ℕ) (size : ℕ) (after : State D) → bindings_of s.bound key ≡ Some a → IsRead s.allocator.setup a (session_of g s).model (Some xs)
       → nat_le (at + length others) (length xs) ≡ true → Some xs ≡ Some ys → zs ≡ overwritten ys at others → length xs ≡ size
       → (length zs ≡ size → IsStep g (model.Write a zs) answers.Done s.allocator after) → (after.setup ≡ s.allocator.setup) × (after.first ≡ s.allocator.first)
-      → IsServed g (Under key (Write at others)) replies.Done s (record { allocator = after; bound = s.bound })
+      → IsCommandServed g (Under key (Write at others)) replies.Done s (record { allocator = after; bound = s.bound })
   puts_bound others a xs ys zs size after found read fits same put long writes constant =
       let is : xs ≡ ys = cc in
       let put_xs : zs ≡ overwritten xs at others = put ∙ ap (λ l. overwritten l at others) (sym is) in
@@ -75,7 +75,7 @@ module _ {D : Type 0} (g : Ghosts D) (s : SessionValue D) (key at : ℕ) where
 
   -- a write past the end
   pub puts_past : (others : List ℕ) (a : Allocation) (xs : List ℕ) → bindings_of s.bound key ≡ Some a → IsRead s.allocator.setup a (session_of g s).model (Some xs)
-      → nat_le (at + length others) (length xs) ≡ false → IsServed g (Under key (Write at others)) replies.OutOfRange s s
+      → nat_le (at + length others) (length xs) ≡ false → IsCommandServed g (Under key (Write at others)) replies.OutOfRange s s
   puts_past others a xs found read past =
       puts_nothing g s key at others a (Some xs) replies.OutOfRange found read
       (subst (λ b. WritesIn s.allocator.setup a at others xs b quiet replies.OutOfRange (session_of g s) (session_of g s)) (sym past) (refl, stayed (session_of g s)))

@@ -18,8 +18,8 @@ use Rattle.gpu_vulkan.specs.declared.allocation.Allocation.{Allocation}
 use Rattle.gpu_run.specs.Bindings.{bindings_of}
 use Rattle.gpu_run.specs.VulkanCommand.{KeyCommand, SessionCommand, Under}
 use Rattle.gpu_run.specs.VulkanReply.{SessionReply}
-use Rattle.gpu_run.specs.VulkanSession.{SessionState, IsOwn, SessionInvariant, CommandEnvironment, Stays, ServesAt, Serves, Runs, Asks, reply_by}
-use Rattle.gpu_run.specs.VulkanServed.{SessionValue, session_of, command_of, reply_of, count_over, latest_over, IsServed, ServesCommand, IsRun, ServesEach}
+use Rattle.gpu_run.specs.VulkanSession.{SessionState, IsOwn, SessionInvariant, CommandEnvironment, Stays, ServesAt, SessionServes, Runs, Asks, reply_by}
+use Rattle.gpu_run.specs.VulkanServed.{SessionValue, session_of, command_of, reply_of, count_over, latest_over, IsCommandServed, ServesCommand, IsRun, ServesEach}
 
 -- nothing is met with
 abbrev pub quiet : CommandEnvironment
@@ -33,14 +33,14 @@ pub stayed : (s : SessionState) → Stays quiet s s
 stayed s = ((refl, refl), refl)
 
 pub serves_at : (setup : Setup) (s new : SessionState) (key : ℕ) (command : KeyCommand) (o : CommandEnvironment) (reply : SessionReply) (found : Option Allocation) → s.bound key ≡ found → ServesAt
-    setup key found command o reply s new → Serves setup (Under key command) o reply s new
+    setup key found command o reply s new → SessionServes setup (Under key command) o reply s new
 serves_at setup s new key command o reply found e h = subst (λ f. ServesAt setup key f command o reply s new) (sym e) h
 
 module _ {D : Type 0} (g : Ghosts D) where
   -- nothing is asked and nothing changes
   pub served_quietly : (key : ℕ) (command : KeyCommand) (reply : SessionReply) (old : SessionValue D) (o : CommandEnvironment) (found : Option Allocation) → o.call ≡ quiet.call →
       (session_of g old).bound key ≡ found
-      → ServesAt old.allocator.setup key found command o reply (session_of g old) (session_of g old) → IsServed g (Under key command) reply old old
+      → ServesAt old.allocator.setup key found command o reply (session_of g old) (session_of g old) → IsCommandServed g (Under key command) reply old old
   served_quietly key command reply old o found met e h = record {
     environment = o;
     serves = serves_at old.allocator.setup (session_of g old) (session_of g old) key command o reply found e h;
@@ -54,8 +54,8 @@ module _ {D : Type 0} (g : Ghosts D) where
   pub told : (call : model.Call) (model_reply : answers.Reply) (command : SessionCommand) (reply : SessionReply) (old new : SessionValue D) → reply_by model_reply ≡ Some reply → new.bound ≡ old.bound
       → new.allocator ≡ record old.allocator { budgets = new.allocator.budgets } → (step : IsStep g call model_reply old.allocator new.allocator)
       → (Asks old.allocator.setup call step.environment reply (session_of g old) (session_of g new)
-      → Serves old.allocator.setup command (record { room = true; call = step.environment }) reply (session_of g old) (session_of g new))
-      → IsServed g command reply old new
+      → SessionServes old.allocator.setup command (record { room = true; call = step.environment }) reply (session_of g old) (session_of g new))
+      → IsCommandServed g command reply old new
   told call model_reply command reply old new is bound others step serves = record {
     environment = record { room = true; call = step.environment };
     serves = serves (record { model_reply = model_reply; step = step.step; reply_is = is; bound = ap (λ b. bindings_of b) bound });

@@ -8,7 +8,7 @@ use Rattle.gpu_values.specs.declared.error.AllocationError.{AllocationError}
 use Rattle.gpu_device.specs.declared.vulkan.device.VulkanDevice.{Ghosts}
 use Rattle.gpu_device.specs.declared.vulkan.types.DeviceMemory.{DeviceMemory}
 use Rattle.gpu_device.specs.declared.vulkan.types.MemoryTypeInfo.{MemoryTypeInfo}
-use Rattle.gpu_vulkan.specs.Allocate.{Allocates}
+use Rattle.gpu_vulkan.specs.Allocate.{AllocatorAllocates}
 use Rattle.gpu_vulkan.specs.Types.{is_mapped, mapped_by, is_host_visible}
 use Rattle.gpu_vulkan.specs.Describe.{requests_dedicated}
 use Rattle.gpu_vulkan.specs.Lends.{number_in}
@@ -25,7 +25,7 @@ use Rattle.gpu_run.specs.VulkanCommand.{Wanted, Describes, Alloc, Under}
 use Rattle.gpu_run.specs.VulkanReply.{Shown}
 use Rattle.gpu_run.specs.Bindings.{bind}
 use Rattle.gpu_run.specs.VulkanSession.{shown}
-use Rattle.gpu_run.specs.VulkanServed.{SessionValue, session_of, shown_allocation, IsServed}
+use Rattle.gpu_run.specs.VulkanServed.{SessionValue, session_of, shown_allocation, IsCommandServed}
 use Rattle.gpu_run.specs.Bindings.{bindings_of}
 use Rattle.gpu_run.proofs.VulkanServing.{serves_at}
 
@@ -68,9 +68,9 @@ shown_same setup d w t p a wants given =
         }
 
 module _ {D : Type 0} (g : Ghosts D) (old new : SessionValue D) (key : ℕ) (w : Wanted) (d : AllocationCreateDesc) (wants : Describes d w) where
-  pub not_taken : (e : AllocationError) → bindings_of old.bound key ≡ None → bindings_of new.bound ≡ bindings_of old.bound → IsAllocateStep g d (Err e) old.allocator new.allocator → Allocates g
+  pub not_taken : (e : AllocationError) → bindings_of old.bound key ≡ None → bindings_of new.bound ≡ bindings_of old.bound → IsAllocateStep g d (Err e) old.allocator new.allocator → AllocatorAllocates g
       old.allocator.setup old.allocator.budgets d old.allocator.slots old.allocator.device (Err e) new.allocator.slots new.allocator.device
-      → (new.allocator.first ≡ old.allocator.first) × (new.allocator.setup ≡ old.allocator.setup) → IsServed g (Under key (Alloc w)) (replies.Error (refusal_of e)) old new
+      → (new.allocator.first ≡ old.allocator.first) × (new.allocator.setup ≡ old.allocator.setup) → IsCommandServed g (Under key (Alloc w)) (replies.Error (refusal_of e)) old new
   not_taken e none same s allocates constant =
       let is = failed_reply old.allocator.setup d e s.reply s.replies in
       let step = subst (λ r. IsStep g (model.Allocate d) r old.allocator new.allocator) is s.step in
@@ -90,8 +90,8 @@ module _ {D : Type 0} (g : Ghosts D) (old new : SessionValue D) (key : ℕ) (w :
       }
 
   pub taken : (a : Allocation) (reply : replies.SessionReply) → bindings_of old.bound key ≡ None → bindings_of new.bound ≡ bind (bindings_of old.bound) key (Some a) → IsAllocateStep g d (Ok a) old.allocator
-      new.allocator → Allocates g old.allocator.setup old.allocator.budgets d old.allocator.slots old.allocator.device (Ok a) new.allocator.slots new.allocator.device
-      → (new.allocator.first ≡ old.allocator.first) × (new.allocator.setup ≡ old.allocator.setup) → reply ≡ replies.Allocated (shown_allocation a) → IsServed g (Under key (Alloc w)) reply old new
+      new.allocator → AllocatorAllocates g old.allocator.setup old.allocator.budgets d old.allocator.slots old.allocator.device (Ok a) new.allocator.slots new.allocator.device
+      → (new.allocator.first ≡ old.allocator.first) × (new.allocator.setup ≡ old.allocator.setup) → reply ≡ replies.Allocated (shown_allocation a) → IsCommandServed g (Under key (Alloc w)) reply old new
   taken a reply none same s allocates constant is_told =
       let is = allocated_reply old.allocator.setup d a s.reply s.replies in
       let step = subst (λ r. IsStep g (model.Allocate d) r old.allocator new.allocator) is.2 s.step in

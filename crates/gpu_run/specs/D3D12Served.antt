@@ -12,7 +12,7 @@ use Rattle.gpu_run.specs.Bindings.{Bindings, bindings_of}
 use Rattle.gpu_run.specs.D3D12Command.{Create, Release, SessionCommand, Under, UnderResource, Leaks, Report, Capacity, Committed, SetBudget, command_of}
 use Rattle.gpu_run.specs.D3D12Reply as replies
 use Rattle.gpu_run.specs.D3D12Reply.{SessionReply, reply_of}
-use Rattle.gpu_run.specs.D3D12Session.{SessionState, SessionInvariant, IsServed}
+use Rattle.gpu_run.specs.D3D12Session.{SessionState, SessionInvariant, IsCommandServed}
 use Rattle.gpu_run.specs.declared.d3d12.command.Command.{Command}
 use Rattle.gpu_run.specs.declared.d3d12.reply.Reply.{Reply}
 
@@ -61,7 +61,7 @@ module _ {D : Type 0} (g : Ghosts D) where
 
   -- a command of the model is served; where the device refused a resource, the reason that was met with is the one that it told
   pub record IsAnswered (command : SessionCommand) (reply : SessionReply) (old new : SessionValue D) : Type 0 where
-    pub served : IsServed (basis_of g old.allocator) command reply (session_of old) (session_of new)
+    pub served : IsCommandServed (basis_of g old.allocator) command reply (session_of old) (session_of new)
     pub reason : TellsReason g served.environment.met.resource (pool_of new.allocator).source
     pub constant : IsConstant old new
     pub journal : new.allocator.journal ≡ journal_after command reply (bindings_of old.resources) old.allocator.journal

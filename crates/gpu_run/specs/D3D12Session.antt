@@ -151,7 +151,7 @@ reply_by (module_replies.Statistics statistics) = Some (replies.Committed statis
 -- basis is what no call changes of the allocator and its device
 module _ (basis : Basis) where
   -- the allocator is asked for a piece
-  pub record Allocates (key : ℕ) (w : Wanted) (met : Environment) (reply : SessionReply) (old new : SessionState) : Type 0 where
+  pub record SessionAllocates (key : ℕ) (w : Wanted) (met : Environment) (reply : SessionReply) (old new : SessionState) : Type 0 where
     pub description : AllocationCreateDesc
     pub asks : AsksFor w description
     pub model_reply : answers.Reply ID3D12Heap
@@ -162,7 +162,7 @@ module _ (basis : Basis) where
   -- a request under a free number: first room is made for the number
   abbrev pub ServesAlloc : (key : ℕ) → Wanted → (room : Bool) → Environment → SessionReply → SessionState → SessionState → Type 0
   ServesAlloc key w false met reply old new = (reply ≡ Error host_out_of_memory) × Stays met old new
-  ServesAlloc key w true met reply old new = Allocates key w met reply old new
+  ServesAlloc key w true met reply old new = SessionAllocates key w met reply old new
 
   -- the allocator is asked for a second place
   pub record Proposes (to : ℕ) (a : Allocation) (w : Wanted) (met : Environment) (reply : SessionReply) (old new : SessionState) : Type 0 where
@@ -184,7 +184,7 @@ module _ (basis : Basis) where
   ServesMove to None a w o reply old new = ServesMoveTo to a w o.room o.met reply old new
 
   -- an allocation is freed
-  pub record Frees (key : ℕ) (a : Allocation) (met : Environment) (reply : SessionReply) (old new : SessionState) : Type 0 where
+  pub record SessionFrees (key : ℕ) (a : Allocation) (met : Environment) (reply : SessionReply) (old new : SessionState) : Type 0 where
     pub done : reply ≡ Done
     pub step : Step basis (model.Free a) met (module_replies.Pool answers.Done) old.model new.model
     pub bound : new.bound ≡ bind old.bound key None
@@ -201,7 +201,7 @@ module _ (basis : Basis) where
   abbrev pub ServesAt : (key : ℕ) → Option Allocation → KeyCommand → CommandEnvironment → SessionReply → SessionState → SessionState → Type 0
   ServesAt key (Some a) (Alloc w) o reply old new = (reply ≡ Busy) × Stays o.met old new
   ServesAt key (Some a) (Move to w) o reply old new = ServesMove to (old.bound to) a w o reply old new
-  ServesAt key (Some a) Free o reply old new = Frees key a o.met reply old new
+  ServesAt key (Some a) Free o reply old new = SessionFrees key a o.met reply old new
   ServesAt key (Some a) (Rename name) o reply old new = Renames key a name o.met reply old new
   ServesAt key None (Alloc w) o reply old new = ServesAlloc key w o.room o.met reply old new
   ServesAt key None (Move to w) o reply old new = (reply ≡ Unbound) × Stays o.met old new
@@ -245,18 +245,18 @@ module _ (basis : Basis) where
     pub resources : new.resources ≡ old.resources
 
   -- from old, the command may be answered so and leave new, where it met with this
-  abbrev pub Serves : SessionCommand → CommandEnvironment → SessionReply → SessionState → SessionState → Type 0
-  Serves (Under key command) o reply old new = ServesAt key (old.bound key) command o reply old new
-  Serves (UnderResource key command) o reply old new = ServesResourceAt key (old.resources key) command o reply old new
-  Serves Leaks o reply old new = Asks model.Leaks o.met reply old new
-  Serves Report o reply old new = Asks model.Report o.met reply old new
-  Serves Capacity o reply old new = Asks model.Capacity o.met reply old new
-  Serves (Committed t) o reply old new = Asks (model.Statistics t) o.met reply old new
-  Serves (SetBudget t budget) o reply old new = Asks (model.SetBudget t budget) o.met reply old new
+  abbrev pub SessionServes : SessionCommand → CommandEnvironment → SessionReply → SessionState → SessionState → Type 0
+  SessionServes (Under key command) o reply old new = ServesAt key (old.bound key) command o reply old new
+  SessionServes (UnderResource key command) o reply old new = ServesResourceAt key (old.resources key) command o reply old new
+  SessionServes Leaks o reply old new = Asks model.Leaks o.met reply old new
+  SessionServes Report o reply old new = Asks model.Report o.met reply old new
+  SessionServes Capacity o reply old new = Asks model.Capacity o.met reply old new
+  SessionServes (Committed t) o reply old new = Asks (model.Statistics t) o.met reply old new
+  SessionServes (SetBudget t budget) o reply old new = Asks (model.SetBudget t budget) o.met reply old new
 
   -- the command is served, whatever it met with: the allocator's history names each question and its answer, and the device
   -- counts just the refused ones
-  pub record IsServed (command : SessionCommand) (reply : SessionReply) (old new : SessionState) : Type 0 where
+  pub record IsCommandServed (command : SessionCommand) (reply : SessionReply) (old new : SessionState) : Type 0 where
     pub environment : CommandEnvironment
-    pub serves : Serves command environment reply old new
+    pub serves : SessionServes command environment reply old new
     pub count : new.refused ≡ refused_after environment.met old.refused

@@ -6,7 +6,7 @@ use Rattle.gpu_metal.specs.Live.{Allocation}
 use Rattle.gpu_run.specs.Bindings.{bindings_of}
 use Rattle.gpu_run.specs.MetalCommand.{SessionCommand, command_of}
 use Rattle.gpu_run.specs.MetalReply.{SessionReply, reply_of}
-use Rattle.gpu_run.specs.MetalSession.{SessionState, SessionInvariant, IsServed}
+use Rattle.gpu_run.specs.MetalSession.{SessionState, SessionInvariant, IsCommandServed}
 use Rattle.gpu_run.specs.declared.metal.command.Command.{Command}
 use Rattle.gpu_run.specs.declared.metal.reply.Reply.{Reply}
 
@@ -26,7 +26,7 @@ module _ {D : Type 0} (g : Ghosts D) where
 
   -- a command of the model is served
   pub record IsAnswered (command : SessionCommand) (reply : SessionReply) (old new : SessionValue D) : Type 0 where
-    pub served : IsServed (g.properties old.allocator.first) command reply (session_of old) (session_of new)
+    pub served : IsCommandServed (g.properties old.allocator.first) command reply (session_of old) (session_of new)
     pub constant : IsConstant old new
 
   -- a command is served, and the numbers own their pieces afterwards

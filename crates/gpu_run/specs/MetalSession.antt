@@ -62,7 +62,7 @@ Binds key name (answers.Error r) reply old new = (reply ≡ Error r) × (new ≡
 Binds key name _ reply old new = ⊥
 
 -- the allocator is asked for what was described
-pub record Allocates (key : ℕ) (name : List ℕ) (is : Described) (met : Environment MTLHeap) (reply : SessionReply) (old new : SessionState) : Type 0 where
+pub record SessionAllocates (key : ℕ) (name : List ℕ) (is : Described) (met : Environment MTLHeap) (reply : SessionReply) (old new : SessionState) : Type 0 where
   pub description : AllocationCreateDesc
   pub asks : AsksFor is name description
   pub model_reply : answers.Reply MTLHeap
@@ -72,7 +72,7 @@ pub record Allocates (key : ℕ) (name : List ℕ) (is : Described) (met : Envir
 -- a request that can be described, or can't
 abbrev pub AllocatesBy : (key : ℕ) (name : List ℕ) → Result Described Refusal → Environment MTLHeap → SessionReply → SessionState → SessionState → Type 0
 AllocatesBy key name (Err why) met reply old new = (reply ≡ Error why) × Stays met old new
-AllocatesBy key name (Ok is) met reply old new = Allocates key name is met reply old new
+AllocatesBy key name (Ok is) met reply old new = SessionAllocates key name is met reply old new
 
 -- a request under a free number: first room is made for the number
 abbrev pub ServesAlloc : Properties → (key : ℕ) → Wanted → (name : List ℕ) → (room : Bool) → Environment MTLHeap → SessionReply → SessionState → SessionState → Type 0
@@ -105,7 +105,7 @@ ServesMove to (Some b) a is name o reply old new = (reply ≡ Busy) × Stays o.m
 ServesMove to None a is name o reply old new = ServesMoveTo to a is name o.room o.met reply old new
 
 -- the allocation is freed, and the number stands for nothing
-pub record Frees (key : ℕ) (a : Allocation) (met : Environment MTLHeap) (reply : SessionReply) (old new : SessionState) : Type 0 where
+pub record SessionFrees (key : ℕ) (a : Allocation) (met : Environment MTLHeap) (reply : SessionReply) (old new : SessionState) : Type 0 where
   pub done : reply ≡ Done
   pub step : Step (model.Free a) met answers.Done old.model new.model
   pub bound : new.bound ≡ bind old.bound key None
@@ -114,7 +114,7 @@ pub record Frees (key : ℕ) (a : Allocation) (met : Environment MTLHeap) (reply
 abbrev pub ServesBound : (key : ℕ) → Allocation → KeyCommand → CommandEnvironment → SessionReply → SessionState → SessionState → Type 0
 ServesBound key a (Alloc wanted name) o reply old new = (reply ≡ Busy) × Stays o.met old new
 ServesBound key a (Move to is name) o reply old new = ServesMove to (old.bound to) a is name o reply old new
-ServesBound key a Free o reply old new = Frees key a o.met reply old new
+ServesBound key a Free o reply old new = SessionFrees key a o.met reply old new
 
 -- under a number that stands for nothing
 abbrev pub ServesUnbound : Properties → (key : ℕ) → KeyCommand → CommandEnvironment → SessionReply → SessionState → SessionState → Type 0
@@ -159,17 +159,17 @@ pub record ShowsHeaps (o : CommandEnvironment) (reply : SessionReply) (old new :
   pub bound : new.bound ≡ old.bound
 
 -- from old, the command may be answered so and leave new, where it met with this; p is what the device tells of itself
-abbrev pub Serves : Properties → SessionCommand → CommandEnvironment → SessionReply → SessionState → SessionState → Type 0
-Serves p (Under key command) o reply old new = ServesAt p key (old.bound key) command o reply old new
-Serves p Heaps o reply old new = ShowsHeaps o reply old new
-Serves p Commit o reply old new = Asks model.Commit o.met reply old new
-Serves p Report o reply old new = Asks model.Report o.met reply old new
-Serves p Capacity o reply old new = Asks model.Capacity o.met reply old new
-Serves p (SetBudget t budget) o reply old new = Asks (model.SetBudget t budget) o.met reply old new
+abbrev pub SessionServes : Properties → SessionCommand → CommandEnvironment → SessionReply → SessionState → SessionState → Type 0
+SessionServes p (Under key command) o reply old new = ServesAt p key (old.bound key) command o reply old new
+SessionServes p Heaps o reply old new = ShowsHeaps o reply old new
+SessionServes p Commit o reply old new = Asks model.Commit o.met reply old new
+SessionServes p Report o reply old new = Asks model.Report o.met reply old new
+SessionServes p Capacity o reply old new = Asks model.Capacity o.met reply old new
+SessionServes p (SetBudget t budget) o reply old new = Asks (model.SetBudget t budget) o.met reply old new
 
 -- the command is served, whatever it met with: the allocator's history names each question and its answer, and the device
 -- counts just the refused ones
-pub record IsServed (p : Properties) (command : SessionCommand) (reply : SessionReply) (old new : SessionState) : Type 0 where
+pub record IsCommandServed (p : Properties) (command : SessionCommand) (reply : SessionReply) (old new : SessionState) : Type 0 where
   pub environment : CommandEnvironment
-  pub serves : Serves p command environment reply old new
+  pub serves : SessionServes p command environment reply old new
   pub count : new.refused ≡ refused_after environment.met old.refused

@@ -14,7 +14,7 @@ use Rattle.gpu_run.specs.Bindings.{bindings_of}
 use Rattle.gpu_run.specs.VulkanReply as replies
 use Rattle.gpu_run.specs.VulkanCommand.{SessionCommand, wanted_of, Alloc, Move, Null, Free, Rename, Write, Read, Under, Report, Leaks, Capacity, SetBudget}
 use Rattle.gpu_run.specs.VulkanReply.{Shown, SessionReply, Allocated, Done, Bytes, Busy, Unbound, NoPlace, Unmapped, OutOfRange, Error}
-use Rattle.gpu_run.specs.VulkanSession.{SessionState, SessionInvariant, CommandEnvironment, Serves, Runs}
+use Rattle.gpu_run.specs.VulkanSession.{SessionState, SessionInvariant, CommandEnvironment, SessionServes, Runs}
 use Rattle.gpu_run.specs.declared.vulkan.command.Command.{Command}
 use Rattle.gpu_run.specs.declared.vulkan.command.Command.TheVariants as asked
 use Rattle.gpu_run.specs.declared.vulkan.reply.Reply.{Reply}
@@ -96,9 +96,9 @@ is_write command = false
 
 -- A command is served at some environment, and their refusals and questions are what the device counts and names. Unless it is a
 -- write, it changes no byte of memory that is held before and after.
-pub record IsServed {D : Type 0} (g : Ghosts D) (command : SessionCommand) (reply : SessionReply) (old new : SessionValue D) : Type 0 where
+pub record IsCommandServed {D : Type 0} (g : Ghosts D) (command : SessionCommand) (reply : SessionReply) (old new : SessionValue D) : Type 0 where
   pub environment : CommandEnvironment
-  pub serves : Serves old.allocator.setup command environment reply (session_of g old) (session_of g new)
+  pub serves : SessionServes old.allocator.setup command environment reply (session_of g old) (session_of g new)
   pub count : g.refused new.allocator.device ≡ count_after (count_after (g.refused old.allocator.device) environment.call.first.asked) environment.call.second.asked
   pub latest : g.latest new.allocator.device ≡ latest_after (latest_after (g.latest old.allocator.device) environment.call.first.asked) environment.call.second.asked
   pub untouched : is_write command ≡ false → LeavesMemory (g.held old.allocator.device) (g.held new.allocator.device)
@@ -106,7 +106,7 @@ pub record IsServed {D : Type 0} (g : Ghosts D) (command : SessionCommand) (repl
 
 -- a command is served, and the numbers own their pieces afterwards
 pub record ServesCommand {D : Type 0} (g : Ghosts D) (old : SessionValue D) (command : Command) (reply : Reply) (new : SessionValue D) : Type 0 where
-  pub served : IsServed g (command_of command) (reply_of reply) old new
+  pub served : IsCommandServed g (command_of command) (reply_of reply) old new
   pub kept : SessionInvariant new.allocator.setup (session_of g new)
 
 -- the replies are those of a run at some environment, whose refusals and questions are what the device counts and names
@@ -120,5 +120,5 @@ pub record IsRun {D : Type 0} (g : Ghosts D) (commands : List SessionCommand) (r
 -- the commands are served one after another
 abbrev pub ServesEach : {D : Type 0} → Ghosts D → List SessionCommand → List SessionReply → (old new : SessionValue D) → Type 0
 ServesEach g [] [] old new = new ≡ old
-ServesEach {D} g (command ∷ commands) (reply ∷ rest) old new = (mid : SessionValue D) × IsServed g command reply old mid × ServesEach g commands rest mid new
+ServesEach {D} g (command ∷ commands) (reply ∷ rest) old new = (mid : SessionValue D) × IsCommandServed g command reply old mid × ServesEach g commands rest mid new
 ServesEach g _ _ old new = ⊥

@@ -102,7 +102,7 @@ abbrev pub ServesNull : (key : ℕ) → (room : Bool) → SessionReply → Sessi
 ServesNull key false reply old new = (reply ≡ Error host_out_of_memory) × (new ≡ old)
 ServesNull key true reply old new = (reply ≡ Done) × (new ≡ record old { bound = bind old.bound key (Some null_allocation) })
 
-pub record Frees (setup : Setup) (key : ℕ) (a : Allocation) (o : CallEnvironment) (reply : SessionReply) (old new : SessionState) : Type 0 where
+pub record SessionFrees (setup : Setup) (key : ℕ) (a : Allocation) (o : CallEnvironment) (reply : SessionReply) (old new : SessionState) : Type 0 where
   pub done : reply ≡ Done
   pub step : Step setup (model.Free a) o answers.Done old.model new.model
   pub bound : new.bound ≡ bind old.bound key None
@@ -152,7 +152,7 @@ abbrev pub ServesBound : Setup → (key : ℕ) → Allocation → KeyCommand →
 ServesBound setup key a (Alloc w) o reply old new = (reply ≡ Busy) × Stays o old new
 ServesBound setup key a (Move to w) o reply old new = ServesMove setup to (old.bound to) a w o reply old new
 ServesBound setup key a Null o reply old new = (reply ≡ Busy) × Stays o old new
-ServesBound setup key a Free o reply old new = Frees setup key a o.call reply old new
+ServesBound setup key a Free o reply old new = SessionFrees setup key a o.call reply old new
 ServesBound setup key a (Rename name) o reply old new = Renames setup key a name o.call reply old new
 ServesBound setup key a (Write at bytes) o reply old new = WritesAt setup a at bytes o reply old new
 ServesBound setup key a (Read at size) o reply old new = ReadsAt setup a at size o reply old new
@@ -190,12 +190,12 @@ pub record Asks (setup : Setup) (call : model.Call) (o : CallEnvironment) (reply
   pub bound : new.bound ≡ old.bound
 
 -- from old, the command may be answered so and leave new, where it meets with this environment
-abbrev pub Serves : Setup → SessionCommand → CommandEnvironment → SessionReply → SessionState → SessionState → Type 0
-Serves setup (Under key command) o reply old new = ServesAt setup key (old.bound key) command o reply old new
-Serves setup Report o reply old new = Asks setup model.Report o.call reply old new
-Serves setup Leaks o reply old new = Asks setup model.Leaks o.call reply old new
-Serves setup Capacity o reply old new = Asks setup model.Capacity o.call reply old new
-Serves setup (SetBudget t budget) o reply old new = Asks setup (model.SetBudget t budget) o.call reply old new
+abbrev pub SessionServes : Setup → SessionCommand → CommandEnvironment → SessionReply → SessionState → SessionState → Type 0
+SessionServes setup (Under key command) o reply old new = ServesAt setup key (old.bound key) command o reply old new
+SessionServes setup Report o reply old new = Asks setup model.Report o.call reply old new
+SessionServes setup Leaks o reply old new = Asks setup model.Leaks o.call reply old new
+SessionServes setup Capacity o reply old new = Asks setup model.Capacity o.call reply old new
+SessionServes setup (SetBudget t budget) o reply old new = Asks setup (model.SetBudget t budget) o.call reply old new
 
 -- ---- runs
 
@@ -207,5 +207,5 @@ pub record SessionInvariant (setup : Setup) (s : SessionState) : Type 0 where
 -- a list of commands, each from the state that the one before it left
 abbrev pub Runs : Setup → SessionState → List SessionCommand → List CommandEnvironment → List SessionReply → SessionState → Type 0
 Runs setup old [] [] [] new = new ≡ old
-Runs setup old (command ∷ commands) (o ∷ os) (reply ∷ rest) new = (mid : SessionState) × Serves setup command o reply old mid × SessionInvariant setup mid × Runs setup mid commands os rest new
+Runs setup old (command ∷ commands) (o ∷ os) (reply ∷ rest) new = (mid : SessionState) × SessionServes setup command o reply old mid × SessionInvariant setup mid × Runs setup mid commands os rest new
 Runs setup old _ _ _ new = ⊥

@@ -54,7 +54,7 @@ pub shared_kind : (s : Setting) → kinds (setting.words s) ≡ sets
 shared_kind (Heap size) = refl
 shared_kind s = refl
 
-pub setting_one : (s t : Setting) → setting.Fits s → setting.Fits t → setting.words s ≡ setting.words t → t ≡ s
+pub setting_one : (s t : Setting) → setting.SettingFits s → setting.SettingFits t → setting.words s ≡ setting.words t → t ≡ s
 setting_one (Heap a) (Heap b) f g e = let k : decimal b ≡ decimal a = cc in ap Heap (decimal_injective b a g f k)
 setting_one (MemoryType a b) (MemoryType x y) f g e =
     let k : decimal x ≡ decimal a = cc in
@@ -80,9 +80,9 @@ setting_one s t f g e = absurd (other e refl)
 abbrev said : Words Setting Command blocks.Command
 said = record {
   setting = setting.words;
-  FitsSetting = setting.Fits;
+  FitsSetting = setting.SettingFits;
   command = ask.words;
-  FitsCommand = ask.Fits;
+  FitsCommand = ask.CommandFits;
   IsOther = block.Spells;
   setting_kind = shared_kind;
   command_kind = command_kind;
@@ -146,7 +146,7 @@ same_request r q f h e =
 
 -- ---- allocations
 
-alloc_one : (n : ℕ) (r : VulkanRequest) → n < 2 ^ 64 → FitsCaptured r → (d : Command) → Spells ask.words ask.Fits (alloc_words n (request_words r)) d
+alloc_one : (n : ℕ) (r : VulkanRequest) → n < 2 ^ 64 → FitsCaptured r → (d : Command) → Spells ask.words ask.CommandFits (alloc_words n (request_words r)) d
     → IsAlloc n r (lines.Asks d)
 alloc_one n r small f (asked.Alloc key q) s =
     let i = s.is in
@@ -164,7 +164,7 @@ alloc_reads g n r rest small f =
 -- ---- second places
 
 move_one : (n m : ℕ) (r : VulkanRequest) → n < 2 ^ 64 → m < 2 ^ 64 → FitsCaptured r → (d : Command)
-    → Spells ask.words ask.Fits (move_words n m (request_words r)) d → IsMove n m r (lines.Asks d)
+    → Spells ask.words ask.CommandFits (move_words n m (request_words r)) d → IsMove n m r (lines.Asks d)
 move_one n m r small also f (asked.Move key to q) s =
     let i = s.is in
     let k : decimal key ≡ decimal n = cc in
@@ -181,7 +181,7 @@ move_reads g n m r rest small also f =
 
 -- ---- names
 
-rename_one : (n : ℕ) (name : List ℕ) → n < 2 ^ 64 → (d : Command) → Spells ask.words ask.Fits (rename_words n (name_word name)) d → IsRename n name (lines.Asks d)
+rename_one : (n : ℕ) (name : List ℕ) → n < 2 ^ 64 → (d : Command) → Spells ask.words ask.CommandFits (rename_words n (name_word name)) d → IsRename n name (lines.Asks d)
 rename_one n name small (asked.Rename key read) s =
     let i = s.is in
     let k : decimal key ≡ decimal n = cc in
@@ -196,7 +196,7 @@ rename_reads g n name rest small =
 
 -- ---- frees and budgets
 
-free_one : (n : ℕ) → n < 2 ^ 64 → (d : Command) → Spells ask.words ask.Fits (ask.words (asked.Free n)) d → d ≡ asked.Free n
+free_one : (n : ℕ) → n < 2 ^ 64 → (d : Command) → Spells ask.words ask.CommandFits (ask.words (asked.Free n)) d → d ≡ asked.Free n
 free_one n small (asked.Free key) s =
     let i = s.is in
     let k : decimal key ≡ decimal n = cc in
@@ -208,7 +208,7 @@ free_reads n rest small =
     asks_line said (λ l. l ≡ lines.Asks (asked.Free n)) (asked.Free n) (codes "free") (decimal n ∷ []) rest refl refl small
     (clean_text (codes "free") refl, (clean_decimal n small, tt)) (λ e. absurd (omega arith)) (λ d s. ap lines.Asks (free_one n small d s))
 
-budget_one : (t : ℕ) (b : Option ℕ) → t < 2 ^ 64 → ask.FitsBudget b → (d : Command) → Spells ask.words ask.Fits (ask.words (asked.SetBudget t b)) d → d ≡ asked.SetBudget t b
+budget_one : (t : ℕ) (b : Option ℕ) → t < 2 ^ 64 → ask.FitsBudget b → (d : Command) → Spells ask.words ask.CommandFits (ask.words (asked.SetBudget t b)) d → d ≡ asked.SetBudget t b
 budget_one t b small f (asked.SetBudget u c) s =
     let i = s.is in
     let k : decimal u ≡ decimal t = cc in
@@ -226,7 +226,7 @@ budget_reads t b rest small f =
 
 -- ---- settings
 
-pub setting_reads : (s : Setting) (rest : List ℕ) → setting.Fits s → BeginsWith Means (λ l. l ≡ lines.Configures s) (line_of (setting.words s) ++ rest) rest
+pub setting_reads : (s : Setting) (rest : List ℕ) → setting.SettingFits s → BeginsWith Means (λ l. l ≡ lines.Configures s) (line_of (setting.words s) ++ rest) rest
 setting_reads (Heap size) rest f =
     sets_line said (Heap size) (codes "heap") (decimal size ∷ []) rest refl f
     (clean_text (codes "heap") refl, (clean_decimal size f, tt)) (λ e. absurd (omega arith))

@@ -48,7 +48,7 @@ answers_fit c f = All-nil FitsAnswer
 abbrev reader : Global → Reader Means IsCall
 reader g = record {
   words = setting.words;
-  FitsSetting = setting.Fits;
+  FitsSetting = setting.SettingFits;
   FitsCall = FitsCall;
   refuse = refuse_setting;
   refuse_words_are = λ q. refl;
@@ -96,7 +96,7 @@ some_lines d sizes =
 
 pub trace_reads : Global → (device : VulkanDevice) (sizes : BlockSizes) (questions : ℕ) (cs : List Call) (is_destroyed : Bool) (begun done : CaptureState)
     → Keeps blank (with_lines blank (vulkan_lines device sizes) [] questions) begun → Kept cs begun done → done.end ≡ Whole
-    → All setting.Fits (device_settings device sizes) → All FitsCall cs
+    → All setting.SettingFits (device_settings device sizes) → All FitsCall cs
     → ReadsAs Means IsCall (parts_of refuse_setting (device_settings device sizes) questions cs (last_part is_destroyed)) (text done is_destroyed)
 trace_reads g device sizes questions cs is_destroyed begun done begins kept whole fit calls_fit =
     let settings = device_settings device sizes in
@@ -107,7 +107,7 @@ trace_reads g device sizes questions cs is_destroyed begun done begins kept whol
 
 pub ended_trace_reads : Global → (device : VulkanDevice) (sizes : BlockSizes) (questions : ℕ) (cs : List Call) (is_destroyed : Bool) (begun done : CaptureState)
     → Keeps blank (with_lines blank (vulkan_lines device sizes) [] questions) begun → begun.end ≡ Whole → Kept cs begun done → done.end ≢ Whole
-    → All setting.Fits (device_settings device sizes) → All FitsCall cs
+    → All setting.SettingFits (device_settings device sizes) → All FitsCall cs
     → ReadsUpTo Means IsCall (λ written. parts_of refuse_setting (device_settings device sizes) questions written (Remarks ∷ [])) cs (text done is_destroyed)
 ended_trace_reads g device sizes questions cs is_destroyed begun done begins was kept early fit calls_fit =
     let settings = device_settings device sizes in

@@ -52,7 +52,7 @@ answers_fit c f = All-nil FitsAnswer
 abbrev reader : Global → Reader Means IsCall
 reader g = record {
   words = setting.words;
-  FitsSetting = setting.Fits;
+  FitsSetting = setting.SettingFits;
   FitsCall = FitsCall;
   refuse = refuse_setting;
   refuse_words_are = λ q. refl;
@@ -71,7 +71,7 @@ lines_are g tier sizes = ap (λ (t : List ℕ). line_of (codes "d3d12" ∷ []) +
 
 pub trace_reads : Global → (tier : ResourceHeapTier) (sizes : BlockSizes) (questions : ℕ) (cs : List Call) (is_destroyed : Bool) (begun done : CaptureState)
     → Keeps blank (with_lines blank (d3d12_lines tier sizes) [] questions) begun → Kept cs begun done → done.end ≡ Whole
-    → All setting.Fits (device_settings tier sizes) → All FitsCall cs
+    → All setting.SettingFits (device_settings tier sizes) → All FitsCall cs
     → IsOfSort d3d12_line (ReadsAs Means IsCall (parts_of refuse_setting (device_settings tier sizes) questions cs (last_part is_destroyed))) (text done is_destroyed)
 trace_reads g tier sizes questions cs is_destroyed begun done begins kept whole fit calls_fit =
     let settings = device_settings tier sizes in
@@ -86,7 +86,7 @@ trace_reads g tier sizes questions cs is_destroyed begun done begins kept whole 
 
 pub ended_trace_reads : Global → (tier : ResourceHeapTier) (sizes : BlockSizes) (questions : ℕ) (cs : List Call) (is_destroyed : Bool) (begun done : CaptureState)
     → Keeps blank (with_lines blank (d3d12_lines tier sizes) [] questions) begun → begun.end ≡ Whole → Kept cs begun done → done.end ≢ Whole
-    → All setting.Fits (device_settings tier sizes) → All FitsCall cs
+    → All setting.SettingFits (device_settings tier sizes) → All FitsCall cs
     → IsOfSort d3d12_line (ReadsUpTo Means IsCall (λ written. parts_of refuse_setting (device_settings tier sizes) questions written (Remarks ∷ [])) cs) (text done is_destroyed)
 ended_trace_reads g tier sizes questions cs is_destroyed begun done begins was kept early fit calls_fit =
     let settings = device_settings tier sizes in

@@ -81,7 +81,7 @@ version-one versions.Device10 versions.Device10 e = refl
 version-one versions.Device12 versions.Device12 e = refl
 version-one a b e = absurd (differ (setting.version_word a) (setting.version_word b) false refl refl e)
 
-pub own_setting_one : (s t : Setting) → setting.Fits s → setting.Fits t → setting.words s ≡ setting.words t → t ≡ s
+pub own_setting_one : (s t : Setting) → setting.SettingFits s → setting.SettingFits t → setting.words s ≡ setting.words t → t ≡ s
 own_setting_one (settings.Tier a) (settings.Tier b) f g e = let k : setting.tier_words a ≡ setting.tier_words b = cc in ap settings.Tier (tier-one a b f g k)
 own_setting_one (settings.Interface a) (settings.Interface b) f g e =
     let k : setting.version_word a ≡ setting.version_word b = cc in ap settings.Interface (version-one a b k)
@@ -95,9 +95,9 @@ own_setting_one s t f g e = absurd (other e refl)
 abbrev pub said : Words Setting Command Look
 said = record {
   setting = setting.words;
-  FitsSetting = setting.Fits;
+  FitsSetting = setting.SettingFits;
   command = command.words;
-  FitsCommand = command.Fits;
+  FitsCommand = command.CommandFits;
   IsOther = IsLook;
   setting_kind = setting_kind;
   command_kind = command_kind;
@@ -162,7 +162,7 @@ same_request r q f h e =
 
 -- ---- commands
 
-alloc_one : (n : ℕ) (r : D3D12Request) → n < 2 ^ 64 → FitsCaptured r → (d : Command) → Spells command.words command.Fits (alloc_words n (request_words r)) d → IsAlloc n r (lines.Asks d)
+alloc_one : (n : ℕ) (r : D3D12Request) → n < 2 ^ 64 → FitsCaptured r → (d : Command) → Spells command.words command.CommandFits (alloc_words n (request_words r)) d → IsAlloc n r (lines.Asks d)
 alloc_one n r small f (asked.Alloc key q) s =
     let i = s.is in
     let k : decimal key ≡ decimal n = cc in
@@ -175,7 +175,7 @@ alloc_reads g n r rest small f =
     asks_line said (IsAlloc n r) (asked.Alloc n (request_of g r)) (codes "alloc") (decimal n ∷ request_words r) rest (ap (alloc_words n) (spelled g r)) refl (small, fits_request g r f)
     (clean_text (codes "alloc") refl, (clean_decimal n small, clean_request r f)) (λ e. absurd (omega arith)) (alloc_one n r small f)
 
-move_one : (n m : ℕ) (r : D3D12Request) → n < 2 ^ 64 → m < 2 ^ 64 → FitsCaptured r → (d : Command) → Spells command.words command.Fits (move_words n m (request_words r)) d → IsMove n m r (lines.Asks d)
+move_one : (n m : ℕ) (r : D3D12Request) → n < 2 ^ 64 → m < 2 ^ 64 → FitsCaptured r → (d : Command) → Spells command.words command.CommandFits (move_words n m (request_words r)) d → IsMove n m r (lines.Asks d)
 move_one n m r small also f (asked.Move key to q) s =
     let i = s.is in
     let k : decimal key ≡ decimal n = cc in
@@ -190,7 +190,7 @@ move_reads g n m r rest small also f =
     asks_line said (IsMove n m r) (asked.Move n m (request_of g r)) (codes "move") (decimal n ∷ decimal m ∷ request_words r) rest (ap (move_words n m) (spelled g r)) refl (small, also, fits_request g r f)
     (clean_text (codes "move") refl, (clean_decimal n small, (clean_decimal m also, clean_request r f))) (λ e. absurd (omega arith)) (move_one n m r small also f)
 
-rename_one : (n : ℕ) (name : List ℕ) → n < 2 ^ 64 → (d : Command) → Spells command.words command.Fits (rename_words n (name_word name)) d → IsRename n name (lines.Asks d)
+rename_one : (n : ℕ) (name : List ℕ) → n < 2 ^ 64 → (d : Command) → Spells command.words command.CommandFits (rename_words n (name_word name)) d → IsRename n name (lines.Asks d)
 rename_one n name small (asked.Rename key read) s =
     let i = s.is in
     let k : decimal key ≡ decimal n = cc in
@@ -203,7 +203,7 @@ rename_reads g n name rest small =
     asks_line said (IsRename n name) (asked.Rename n (text_of g name).0) (codes "rename") (decimal n ∷ name_word name ∷ []) rest (ap (rename_words n) (sym (text_of g name).1)) refl (small, subst IsName (sym (text_of g name).1) (is_name name))
     (clean_text (codes "rename") refl, (clean_decimal n small, (clean_name name, tt))) (λ e. absurd (omega arith)) (rename_one n name small)
 
-free_one : (n : ℕ) → n < 2 ^ 64 → (d : Command) → Spells command.words command.Fits (command.words (asked.Free n)) d → d ≡ asked.Free n
+free_one : (n : ℕ) → n < 2 ^ 64 → (d : Command) → Spells command.words command.CommandFits (command.words (asked.Free n)) d → d ≡ asked.Free n
 free_one n small (asked.Free key) s =
     let i = s.is in
     let k : decimal key ≡ decimal n = cc in
@@ -215,7 +215,7 @@ free_reads n rest small =
     asks_line said (λ l. l ≡ lines.Asks (asked.Free n)) (asked.Free n) (codes "free") (decimal n ∷ []) rest refl refl small
     (clean_text (codes "free") refl, (clean_decimal n small, tt)) (λ e. absurd (omega arith)) (λ d s. ap lines.Asks (free_one n small d s))
 
-release_one : (n : ℕ) → n < 2 ^ 64 → (d : Command) → Spells command.words command.Fits (command.words (asked.Release n)) d → d ≡ asked.Release n
+release_one : (n : ℕ) → n < 2 ^ 64 → (d : Command) → Spells command.words command.CommandFits (command.words (asked.Release n)) d → d ≡ asked.Release n
 release_one n small (asked.Release key) s =
     let i = s.is in
     let k : decimal key ≡ decimal n = cc in
@@ -227,7 +227,7 @@ release_reads n rest small =
     asks_line said (λ l. l ≡ lines.Asks (asked.Release n)) (asked.Release n) (codes "release") (decimal n ∷ []) rest refl refl small
     (clean_text (codes "release") refl, (clean_decimal n small, tt)) (λ e. absurd (omega arith)) (λ d s. ap lines.Asks (release_one n small d s))
 
-budget_one : (t : ℕ) (b : Option ℕ) → t < 2 ^ 64 → FitsBudget b → (d : Command) → Spells command.words command.Fits (command.words (asked.SetBudget t b)) d → d ≡ asked.SetBudget t b
+budget_one : (t : ℕ) (b : Option ℕ) → t < 2 ^ 64 → FitsBudget b → (d : Command) → Spells command.words command.CommandFits (command.words (asked.SetBudget t b)) d → d ≡ asked.SetBudget t b
 budget_one t b small f (asked.SetBudget u c) s =
     let i = s.is in
     let k : decimal u ≡ decimal t = cc in
@@ -245,7 +245,7 @@ budget_reads t b rest small f =
 
 -- ---- settings
 
-pub setting_reads : (s : Setting) (rest : List ℕ) → setting.Fits s → BeginsWith Means (λ l. l ≡ lines.Configures s) (line_of (setting.words s) ++ rest) rest
+pub setting_reads : (s : Setting) (rest : List ℕ) → setting.SettingFits s → BeginsWith Means (λ l. l ≡ lines.Configures s) (line_of (setting.words s) ++ rest) rest
 setting_reads (settings.Tier (Ok Tier1)) rest f =
     sets_line said (settings.Tier (Ok Tier1)) (codes "tier") (codes "1" ∷ []) rest refl f (clean_text (codes "tier") refl, (clean_text (codes "1") refl, tt)) (λ e. absurd (omega arith))
 setting_reads (settings.Tier (Ok Tier2)) rest f =

@@ -160,7 +160,7 @@ same_resource number r w f h e =
       name = cc;
     }
 
-create_one : (n : ℕ) (r : D3D12Request) → n < 2 ^ 64 → r.size < 2 ^ 64 → (d : Command) → Spells command.words command.Fits (create_words n r) d → IsCreate n r (lines.Asks d)
+create_one : (n : ℕ) (r : D3D12Request) → n < 2 ^ 64 → r.size < 2 ^ 64 → (d : Command) → Spells command.words command.CommandFits (create_words n r) d → IsCreate n r (lines.Asks d)
 create_one n r small f (asked.Create key w) s =
     let i = s.is in
     let k : decimal key ≡ decimal n = cc in

@@ -50,7 +50,7 @@ answers_fit c f = All-nil FitsAnswer
 abbrev reader : Global → Reader Means IsCall
 reader g = record {
   words = setting.words;
-  FitsSetting = setting.Fits;
+  FitsSetting = setting.SettingFits;
   FitsCall = FitsCall;
   refuse = refuse_setting;
   refuse_words_are = λ q. refl;
@@ -69,7 +69,7 @@ lines_are g has_set sizes = ap (λ (t : List ℕ). line_of (codes "metal" ∷ []
 
 pub trace_reads : Global → (has_set : Bool) (sizes : BlockSizes) (questions : ℕ) (cs : List Call) (is_destroyed : Bool) (begun done : CaptureState)
     → Keeps blank (with_lines blank (metal_lines has_set sizes) [] questions) begun → Kept cs begun done → done.end ≡ Whole
-    → All setting.Fits (device_settings has_set sizes) → All FitsCall cs
+    → All setting.SettingFits (device_settings has_set sizes) → All FitsCall cs
     → IsOfSort metal_line (ReadsAs Means IsCall (parts_of refuse_setting (device_settings has_set sizes) questions cs (last_part is_destroyed))) (text done is_destroyed)
 trace_reads g has_set sizes questions cs is_destroyed begun done begins kept whole fit calls_fit =
     let settings = device_settings has_set sizes in
@@ -84,7 +84,7 @@ trace_reads g has_set sizes questions cs is_destroyed begun done begins kept who
 
 pub ended_trace_reads : Global → (has_set : Bool) (sizes : BlockSizes) (questions : ℕ) (cs : List Call) (is_destroyed : Bool) (begun done : CaptureState)
     → Keeps blank (with_lines blank (metal_lines has_set sizes) [] questions) begun → begun.end ≡ Whole → Kept cs begun done → done.end ≢ Whole
-    → All setting.Fits (device_settings has_set sizes) → All FitsCall cs
+    → All setting.SettingFits (device_settings has_set sizes) → All FitsCall cs
     → IsOfSort metal_line (ReadsUpTo Means IsCall (λ written. parts_of refuse_setting (device_settings has_set sizes) questions written (Remarks ∷ [])) cs) (text done is_destroyed)
 ended_trace_reads g has_set sizes questions cs is_destroyed begun done begins was kept early fit calls_fit =
     let settings = device_settings has_set sizes in

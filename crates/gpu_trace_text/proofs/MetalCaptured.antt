@@ -64,7 +64,7 @@ yes-one true true e = refl
 yes-one false false e = refl
 yes-one a b e = absurd (differ (yes_word a) (yes_word b) false refl refl e)
 
-own_setting_one : (s t : Setting) → setting.Fits s → setting.Fits t → setting.words s ≡ setting.words t → t ≡ s
+own_setting_one : (s t : Setting) → setting.SettingFits s → setting.SettingFits t → setting.words s ≡ setting.words t → t ≡ s
 own_setting_one (settings.Sets a) (settings.Sets b) f g e = let k : yes_word a ≡ yes_word b = cc in ap settings.Sets (yes-one a b k)
 own_setting_one (settings.Residency a) (settings.Residency b) f g e = let k : yes_word a ≡ yes_word b = cc in ap settings.Residency (yes-one a b k)
 own_setting_one (settings.Shared a) (settings.Shared b) f g e = ap settings.Shared (setting_one a b f.1 g.1 e)
@@ -77,9 +77,9 @@ own_setting_one s t f g e = absurd (other e refl)
 abbrev said : Words Setting Command Look
 said = record {
   setting = setting.words;
-  FitsSetting = setting.Fits;
+  FitsSetting = setting.SettingFits;
   command = command.words;
-  FitsCommand = command.Fits;
+  FitsCommand = command.CommandFits;
   IsOther = IsLook;
   setting_kind = setting_kind;
   command_kind = command_kind;
@@ -124,7 +124,7 @@ same_request r q f h e =
 
 -- ---- commands
 
-alloc_one : (n : ℕ) (r : MetalRequest) → n < 2 ^ 64 → FitsCaptured r → (d : Command) → Spells command.words command.Fits (alloc_words n (request_words r)) d → IsAlloc n r (lines.Asks d)
+alloc_one : (n : ℕ) (r : MetalRequest) → n < 2 ^ 64 → FitsCaptured r → (d : Command) → Spells command.words command.CommandFits (alloc_words n (request_words r)) d → IsAlloc n r (lines.Asks d)
 alloc_one n r small f (asked.Alloc key q) s =
     let i = s.is in
     let k : decimal key ≡ decimal n = cc in
@@ -137,7 +137,7 @@ alloc_reads g n r rest small f =
     asks_line said (IsAlloc n r) (asked.Alloc n (request_of g r)) (codes "alloc") (decimal n ∷ request_words r) rest (ap (alloc_words n) (spelled g r)) refl (small, fits_request g r f)
     (clean_text (codes "alloc") refl, (clean_decimal n small, clean_request r f)) (λ e. absurd (omega arith)) (alloc_one n r small f)
 
-move_one : (n m : ℕ) (r : MetalRequest) → n < 2 ^ 64 → m < 2 ^ 64 → FitsCaptured r → (d : Command) → Spells command.words command.Fits (move_words n m (request_words r)) d → IsMove n m r (lines.Asks d)
+move_one : (n m : ℕ) (r : MetalRequest) → n < 2 ^ 64 → m < 2 ^ 64 → FitsCaptured r → (d : Command) → Spells command.words command.CommandFits (move_words n m (request_words r)) d → IsMove n m r (lines.Asks d)
 move_one n m r small also f (asked.Move key to q) s =
     let i = s.is in
     let k : decimal key ≡ decimal n = cc in
@@ -152,7 +152,7 @@ move_reads g n m r rest small also f =
     asks_line said (IsMove n m r) (asked.Move n m (request_of g r)) (codes "move") (decimal n ∷ decimal m ∷ request_words r) rest (ap (move_words n m) (spelled g r)) refl (small, also, fits_request g r f)
     (clean_text (codes "move") refl, (clean_decimal n small, (clean_decimal m also, clean_request r f))) (λ e. absurd (omega arith)) (move_one n m r small also f)
 
-free_one : (n : ℕ) → n < 2 ^ 64 → (d : Command) → Spells command.words command.Fits (command.words (asked.Free n)) d → d ≡ asked.Free n
+free_one : (n : ℕ) → n < 2 ^ 64 → (d : Command) → Spells command.words command.CommandFits (command.words (asked.Free n)) d → d ≡ asked.Free n
 free_one n small (asked.Free key) s =
     let i = s.is in
     let k : decimal key ≡ decimal n = cc in
@@ -164,7 +164,7 @@ free_reads n rest small =
     asks_line said (λ l. l ≡ lines.Asks (asked.Free n)) (asked.Free n) (codes "free") (decimal n ∷ []) rest refl refl small
     (clean_text (codes "free") refl, (clean_decimal n small, tt)) (λ e. absurd (omega arith)) (λ d s. ap lines.Asks (free_one n small d s))
 
-budget_one : (t : ℕ) (b : Option ℕ) → t < 2 ^ 64 → FitsBudget b → (d : Command) → Spells command.words command.Fits (command.words (asked.SetBudget t b)) d → d ≡ asked.SetBudget t b
+budget_one : (t : ℕ) (b : Option ℕ) → t < 2 ^ 64 → FitsBudget b → (d : Command) → Spells command.words command.CommandFits (command.words (asked.SetBudget t b)) d → d ≡ asked.SetBudget t b
 budget_one t b small f (asked.SetBudget u c) s =
     let i = s.is in
     let k : decimal u ≡ decimal t = cc in
@@ -180,7 +180,7 @@ budget_reads t b rest small f =
     asks_line said (λ l. l ≡ lines.Asks (asked.SetBudget t b)) (asked.SetBudget t b) (codes "budget") (decimal t ∷ budget_word b ∷ []) rest refl refl (small, f)
     (clean_text (codes "budget") refl, (clean_decimal t small, (clean_budget b f, tt))) (λ e. absurd (omega arith)) (λ d s. ap lines.Asks (budget_one t b small f d s))
 
-commit_one : (d : Command) → Spells command.words command.Fits (command.words asked.Commit) d → d ≡ asked.Commit
+commit_one : (d : Command) → Spells command.words command.CommandFits (command.words asked.Commit) d → d ≡ asked.Commit
 commit_one asked.Commit s = refl
 commit_one d s = absurd (other s.is refl)
 
@@ -191,7 +191,7 @@ commit_reads rest =
 
 -- ---- settings
 
-pub setting_reads : (s : Setting) (rest : List ℕ) → setting.Fits s → BeginsWith Means (λ l. l ≡ lines.Configures s) (line_of (setting.words s) ++ rest) rest
+pub setting_reads : (s : Setting) (rest : List ℕ) → setting.SettingFits s → BeginsWith Means (λ l. l ≡ lines.Configures s) (line_of (setting.words s) ++ rest) rest
 setting_reads (settings.Sets true) rest f =
     sets_line said (settings.Sets true) (codes "sets") (codes "yes" ∷ []) rest refl f (clean_text (codes "sets") refl, (clean_text (codes "yes") refl, tt)) (λ e. absurd (omega arith))
 setting_reads (settings.Residency true) rest f =

@@ -15,7 +15,7 @@ use Rattle.gpu_block_session.specs.Words.{texts}
 pub no_texture : (arguments : List (Bor (List ℕ))) (d : Bor (List ℕ))
     → ((m : StorageMode) (w h b : ℕ) → FitsMode m → w < 2 ^ 64 → h < 2 ^ 64 → b < 2 ^ 64 → (get_or arguments 1 d).now ≡ mode_word m → (get_or arguments 2 d).now ≡ decimal w
     → (get_or arguments 3 d).now ≡ decimal h → (get_or arguments 4 d).now ≢ decimal b)
-    → (c : Command) → Spells commands.words commands.Fits (codes "texture" ∷ texts arguments) c → ⊥
+    → (c : Command) → Spells commands.words commands.CommandFits (codes "texture" ∷ texts arguments) c → ⊥
 no_texture (k ∷ m ∷ w ∷ h ∷ b ∷ rest) d none (Texture key t name) s =
     let f = s.fits.1 in
     let is = s.is in

@@ -25,10 +25,10 @@ use Rattle.gpu_trace_text.specs.Spelled.{Spells}
 use Rattle.gpu_block_session.specs.BlockSort.{opens_block, uses_block, reports, sort_of_command}
 use Rattle.gpu_trace_text.specs.Sort.{Sort, of_block, describes, sets_page, sets_sizes, makes, asks, destroys, says_nothing, sort_of, sort_of_setting}
 use Rattle.gpu_trace_text.specs.Stage.{Admits, AdmitsSort, Does}
-use Rattle.gpu_trace_text.specs.BlockOrDevice.{Serves}
+use Rattle.gpu_trace_text.specs.BlockOrDevice.{AnyStageServes}
 
 abbrev IsSaid : List ℕ → Line → Type 0
-IsSaid = dialect.IsSaid (Spells setting.words setting.Fits) (Spells ask.words ask.Fits) block.Spells
+IsSaid = dialect.IsSaid (Spells setting.words setting.SettingFits) (Spells ask.words ask.CommandFits) block.Spells
 
 abbrev pub choose : Bool → Sort → Sort → Sort
 choose true a b = a
@@ -77,7 +77,7 @@ of_setting (Sizes device host max_device max_host) = refl
 of_setting (Refuse question refusal) = refl
 
 -- `report` is read as a line of block traces
-pub of_ask : (c : asks_commands.Command) → ask.Fits c → by_words (ask.words c) ≡ asks
+pub of_ask : (c : asks_commands.Command) → ask.CommandFits c → by_words (ask.words c) ≡ asks
 of_ask asked.Report f = absurd f
 of_ask c f = refl
 
@@ -152,7 +152,7 @@ alike stage line lines.Blank m means also a = tt
 alike stage line lines.Bad m means also a = nothing_beside stage line m means also a
 alike stage line l m means also a = said_beside stage line l m tt means also a
 
-pub served : (old new : Stage) (line : List ℕ) (l : Line) (o : Outcome Reply) → Means line l → Does old l o new → Serves old line o new
+pub served : (old new : Stage) (line : List ℕ) (l : Line) (o : Outcome Reply) → Means line l → Does old l o new → AnyStageServes old line o new
 served old new line l Nothing means did = (l, means, did)
 served old new line l (Replied r) means did = (l, means, did)
 served old new line l Bad means did = λ m also a. did (alike old line l m means also a)

@@ -23,9 +23,9 @@ use Rattle.gpu_trace_text.specs.declared.any.AnyTrace.TheVariants.{Vulkan, Metal
 
 -- a line does in a block trace or a device trace what it does there
 abbrev pub DidVulkan : vulkan_stages.Stage → List ℕ → Outcome AnyReply → AnyTrace → Type 0
-DidVulkan old line Nothing (Vulkan new) = vulkan.Serves old line Nothing new
-DidVulkan old line (Replied (replies.Vulkan r)) (Vulkan new) = vulkan.Serves old line (Replied r) new
-DidVulkan old line Bad (Vulkan new) = vulkan.Serves old line Bad new
+DidVulkan old line Nothing (Vulkan new) = vulkan.AnyStageServes old line Nothing new
+DidVulkan old line (Replied (replies.Vulkan r)) (Vulkan new) = vulkan.AnyStageServes old line (Replied r) new
+DidVulkan old line Bad (Vulkan new) = vulkan.AnyStageServes old line Bad new
 DidVulkan old line _ _ = ⊥
 
 -- a line does in a Metal trace what it does there

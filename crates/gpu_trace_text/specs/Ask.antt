@@ -59,15 +59,15 @@ FitsBudget None = Unit {0}
 FitsBudget (Some bytes) = bytes < 2 ^ 64
 
 -- what a command's numbers, names and bytes may be
-abbrev pub Fits : Command → Type 0
-Fits (Alloc key request) = (key < 2 ^ 64) × FitsRequest request
-Fits (Move key to request) = (key < 2 ^ 64) × (to < 2 ^ 64) × FitsRequest request
-Fits (Null key) = key < 2 ^ 64
-Fits (Free key) = key < 2 ^ 64
-Fits (Rename key name) = (key < 2 ^ 64) × IsName (string_bytes name)
-Fits (Write key at bytes) = (key < 2 ^ 64) × (at < 2 ^ 64) × IsPayload bytes.items
-Fits (Read key at size) = (key < 2 ^ 64) × (at < 2 ^ 64) × IsLength size
-Fits Report = ⊥
-Fits Leaks = Unit {0}
-Fits Capacity = Unit {0}
-Fits (SetBudget t budget) = (t < 2 ^ 64) × FitsBudget budget
+abbrev pub CommandFits : Command → Type 0
+CommandFits (Alloc key request) = (key < 2 ^ 64) × FitsRequest request
+CommandFits (Move key to request) = (key < 2 ^ 64) × (to < 2 ^ 64) × FitsRequest request
+CommandFits (Null key) = key < 2 ^ 64
+CommandFits (Free key) = key < 2 ^ 64
+CommandFits (Rename key name) = (key < 2 ^ 64) × IsName (string_bytes name)
+CommandFits (Write key at bytes) = (key < 2 ^ 64) × (at < 2 ^ 64) × IsPayload bytes.items
+CommandFits (Read key at size) = (key < 2 ^ 64) × (at < 2 ^ 64) × IsLength size
+CommandFits Report = ⊥
+CommandFits Leaks = Unit {0}
+CommandFits Capacity = Unit {0}
+CommandFits (SetBudget t budget) = (t < 2 ^ 64) × FitsBudget budget

@@ -12,7 +12,7 @@ abbrev pub IsBad : Stage → List ℕ → Type 0
 IsBad stage line = (l : Line) → Means line l → Admits stage l → ⊥
 
 -- what one line does
-abbrev pub Serves : Stage → List ℕ → Outcome Reply → Stage → Type 0
-Serves old line Nothing new = (l : Line) × Means line l × Quietly old l new
-Serves old line (Replied r) new = (l : Line) × Means line l × Step old l r new
-Serves old line Bad new = IsBad old line
+abbrev pub AnyStageServes : Stage → List ℕ → Outcome Reply → Stage → Type 0
+AnyStageServes old line Nothing new = (l : Line) × Means line l × Quietly old l new
+AnyStageServes old line (Replied r) new = (l : Line) × Means line l × Step old l r new
+AnyStageServes old line Bad new = IsBad old line

@@ -35,15 +35,15 @@ pub record FitsRequest (r : Request) : Type 0 where
   pub name_fits : IsName (string_bytes r.name)
 
 -- what a command's numbers and names may be
-abbrev pub Fits : Command → Type 0
-Fits (Alloc key request) = (key < 2 ^ 64) × FitsRequest request
-Fits (Move key to request) = (key < 2 ^ 64) × (to < 2 ^ 64) × FitsRequest request
-Fits (Free key) = key < 2 ^ 64
-Fits (Rename key name) = (key < 2 ^ 64) × IsName (string_bytes name)
-Fits (Create key wanted) = (key < 2 ^ 64) × FitsWanted wanted
-Fits (Release key) = key < 2 ^ 64
-Fits Leaks = Unit {0}
-Fits Report = Unit {0}
-Fits Capacity = Unit {0}
-Fits (Committed t) = t < 2 ^ 64
-Fits (SetBudget t budget) = (t < 2 ^ 64) × FitsBudget budget
+abbrev pub CommandFits : Command → Type 0
+CommandFits (Alloc key request) = (key < 2 ^ 64) × FitsRequest request
+CommandFits (Move key to request) = (key < 2 ^ 64) × (to < 2 ^ 64) × FitsRequest request
+CommandFits (Free key) = key < 2 ^ 64
+CommandFits (Rename key name) = (key < 2 ^ 64) × IsName (string_bytes name)
+CommandFits (Create key wanted) = (key < 2 ^ 64) × FitsWanted wanted
+CommandFits (Release key) = key < 2 ^ 64
+CommandFits Leaks = Unit {0}
+CommandFits Report = Unit {0}
+CommandFits Capacity = Unit {0}
+CommandFits (Committed t) = t < 2 ^ 64
+CommandFits (SetBudget t budget) = (t < 2 ^ 64) × FitsBudget budget

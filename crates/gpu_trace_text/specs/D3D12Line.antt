@@ -24,4 +24,4 @@ IsLook words l = words ≡ look_words l
 
 -- what a line says
 abbrev pub Means : List ℕ → Line → Type 0
-Means = dialect.Means (Spells setting.words setting.Fits) (Spells command.words command.Fits) IsLook
+Means = dialect.Means (Spells setting.words setting.SettingFits) (Spells command.words command.CommandFits) IsLook

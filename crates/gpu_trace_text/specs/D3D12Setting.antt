@@ -33,7 +33,7 @@ FitsTier (Ok tier) = Unit {0}
 FitsTier (Err code) = FitsSigned w32 code
 
 -- what its numbers may be
-abbrev pub Fits : Setting → Type 0
-Fits (Tier tier) = FitsTier tier
-Fits (Interface version) = Unit {0}
-Fits (Shared s) = settings.FitsShared s
+abbrev pub SettingFits : Setting → Type 0
+SettingFits (Tier tier) = FitsTier tier
+SettingFits (Interface version) = Unit {0}
+SettingFits (Shared s) = settings.FitsShared s

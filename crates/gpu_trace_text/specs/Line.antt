@@ -16,8 +16,8 @@ Line = lines.Line Setting Command blocks.Command
 
 -- what words say
 abbrev pub Reads : List (List ℕ) → Line → Type 0
-Reads = dialect.Reads (Spells setting.words setting.Fits) (Spells ask.words ask.Fits) block.Spells
+Reads = dialect.Reads (Spells setting.words setting.SettingFits) (Spells ask.words ask.CommandFits) block.Spells
 
 -- what a line says
 abbrev pub Means : List ℕ → Line → Type 0
-Means = dialect.Means (Spells setting.words setting.Fits) (Spells ask.words ask.Fits) block.Spells
+Means = dialect.Means (Spells setting.words setting.SettingFits) (Spells ask.words ask.CommandFits) block.Spells

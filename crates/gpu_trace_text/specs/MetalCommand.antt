@@ -61,15 +61,15 @@ pub record FitsTexture (t : TextureDescriptor) : Type 0 where
   pub bytes_fit : t.bytes_per_texel < 2 ^ 64
 
 -- what a command's numbers and names may be
-abbrev pub Fits : Command → Type 0
-Fits (Alloc key request) = (key < 2 ^ 64) × FitsRequest request
-Fits (Move key to request) = (key < 2 ^ 64) × (to < 2 ^ 64) × FitsRequest request
-Fits (Buffer key length location name) = (key < 2 ^ 64) × (length < 2 ^ 64) × IsName (string_bytes name)
-Fits (AccelerationStructure key size location name) = (key < 2 ^ 64) × (size < 2 ^ 64) × IsName (string_bytes name)
-Fits (Texture key t name) = (key < 2 ^ 64) × FitsTexture t × IsName (string_bytes name)
-Fits (Free key) = key < 2 ^ 64
-Fits Heaps = Unit {0}
-Fits Commit = Unit {0}
-Fits Report = Unit {0}
-Fits Capacity = Unit {0}
-Fits (SetBudget t budget) = (t < 2 ^ 64) × FitsBudget budget
+abbrev pub CommandFits : Command → Type 0
+CommandFits (Alloc key request) = (key < 2 ^ 64) × FitsRequest request
+CommandFits (Move key to request) = (key < 2 ^ 64) × (to < 2 ^ 64) × FitsRequest request
+CommandFits (Buffer key length location name) = (key < 2 ^ 64) × (length < 2 ^ 64) × IsName (string_bytes name)
+CommandFits (AccelerationStructure key size location name) = (key < 2 ^ 64) × (size < 2 ^ 64) × IsName (string_bytes name)
+CommandFits (Texture key t name) = (key < 2 ^ 64) × FitsTexture t × IsName (string_bytes name)
+CommandFits (Free key) = key < 2 ^ 64
+CommandFits Heaps = Unit {0}
+CommandFits Commit = Unit {0}
+CommandFits Report = Unit {0}
+CommandFits Capacity = Unit {0}
+CommandFits (SetBudget t budget) = (t < 2 ^ 64) × FitsBudget budget

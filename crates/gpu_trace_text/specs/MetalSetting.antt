@@ -12,7 +12,7 @@ words (Residency b) = residency_words b
 words (Shared s) = settings.words s
 
 -- what its numbers may be
-abbrev pub Fits : Setting → Type 0
-Fits (Sets b) = Unit {0}
-Fits (Residency b) = Unit {0}
-Fits (Shared s) = settings.FitsShared s
+abbrev pub SettingFits : Setting → Type 0
+SettingFits (Sets b) = Unit {0}
+SettingFits (Residency b) = Unit {0}
+SettingFits (Shared s) = settings.FitsShared s

@@ -21,12 +21,12 @@ FitsRefusal (Code code) = FitsSigned w32 code
 FitsRefusal Null = Unit {0}
 
 -- what its numbers may be; questions are counted from 1
-abbrev pub Fits : Setting → Type 0
-Fits (Heap size) = size < 2 ^ 64
-Fits (MemoryType flags heap) = (flags < 2 ^ 32) × (heap < 2 ^ 32)
-Fits (Granularity bytes) = bytes < 2 ^ 64
-Fits (BlockSizes device host max_device max_host) = (device < 2 ^ 64) × (host < 2 ^ 64) × (max_device < 2 ^ 64) × (max_host < 2 ^ 64)
-Fits (Refuse question refusal) = (0 < question) × (question < 2 ^ 64) × FitsRefusal refusal
+abbrev pub SettingFits : Setting → Type 0
+SettingFits (Heap size) = size < 2 ^ 64
+SettingFits (MemoryType flags heap) = (flags < 2 ^ 32) × (heap < 2 ^ 32)
+SettingFits (Granularity bytes) = bytes < 2 ^ 64
+SettingFits (BlockSizes device host max_device max_host) = (device < 2 ^ 64) × (host < 2 ^ 64) × (max_device < 2 ^ 64) × (max_host < 2 ^ 64)
+SettingFits (Refuse question refusal) = (0 < question) × (question < 2 ^ 64) × FitsRefusal refusal
 
 -- the sizes of blocks that a line stands for: on each side they begin at one size and double up to another
 abbrev pub sizes_of : (device host max_device max_host : ℕ) → Sizes
@@ -42,4 +42,4 @@ IsShared (Refuse question refusal) = Unit {0}
 
 -- it is one of these, and its numbers are what they may be
 abbrev pub FitsShared : Setting → Type 0
-FitsShared s = IsShared s × Fits s
+FitsShared s = IsShared s × SettingFits s

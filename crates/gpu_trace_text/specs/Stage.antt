@@ -18,7 +18,7 @@ use Rattle.gpu_vulkan.specs.Setup.{setup_fault}
 use Rattle.gpu_run.specs.VulkanCommand as session_commands
 use Rattle.gpu_run.specs.VulkanCommand.{SessionCommand}
 use Rattle.gpu_run.specs.VulkanSession.{SessionInvariant}
-use Rattle.gpu_run.specs.VulkanServed.{SessionValue, command_of, reply_of, session_of, IsServed}
+use Rattle.gpu_run.specs.VulkanServed.{SessionValue, command_of, reply_of, session_of, IsCommandServed}
 use Rattle.gpu_block_session.specs.declared.block.command.Command as block_commands
 use Rattle.gpu_block_session.specs.declared.block.command.Command.TheVariants as commands
 use Rattle.gpu_block_session.specs.declared.block_stage.BlockStage.TheVariants as block_stages
@@ -32,7 +32,7 @@ use Rattle.gpu_block_session.specs.declared.outcome.Outcome.{Outcome}
 use Rattle.gpu_block_session.specs.declared.outcome.Outcome.TheVariants.{Nothing, Replied, Bad}
 use Rattle.gpu_trace_text.specs.declared.stage.Stage.{Stage}
 use Rattle.gpu_trace_text.specs.declared.stage.Stage.TheVariants.{Before, Block, Configuring, Device, Closed}
-use Rattle.gpu_block_session.specs.BlockWords.{Fits as FitsBlock}
+use Rattle.gpu_block_session.specs.BlockWords.{CommandFits as FitsBlock}
 use Rattle.gpu_block_session.specs.BlockStage as block
 use Rattle.gpu_block_session.specs.BlockSort.{opens_block, reports}
 use Rattle.gpu_trace_text.specs.Sort.{Sort, of_block, describes, sets_page, sets_sizes, makes, asks, destroys, sort_of}
@@ -78,9 +78,9 @@ Begins c (Refused number) Closed = (e : AllocationError) × (number ≡ number_o
 Begins c _ _ = ⊥
 
 -- a command that a session serves
-abbrev pub Serves : SessionValue SimVulkan → SessionCommand → device_replies.Reply → Stage → Type 0
-Serves s command (Served reply) (Device t) = IsServed simulated command (reply_of reply) s t × IsSound t
-Serves s command _ _ = ⊥
+abbrev pub StageServes : SessionValue SimVulkan → SessionCommand → device_replies.Reply → Stage → Type 0
+StageServes s command (Served reply) (Device t) = IsCommandServed simulated command (reply_of reply) s t × IsSound t
+StageServes s command _ _ = ⊥
 
 abbrev pub Ends : SessionValue SimVulkan → device_replies.Reply → Stage → Type 0
 Ends s (Held count) Closed = count ≡ map_len (held_of s.allocator.first)
@@ -98,7 +98,7 @@ Ended _ None = Unit {0}
 -- ---- a line with a reply
 
 abbrev pub ServesSaid : SessionValue SimVulkan → block_commands.Command → device_replies.Reply → Stage → Type 0
-ServesSaid s commands.Report r new = Serves s session_commands.Report r new
+ServesSaid s commands.Report r new = StageServes s session_commands.Report r new
 ServesSaid s _ r new = ⊥
 
 abbrev pub BlockStep : block_stages.the_data → block_commands.Command → Reply → Stage → Type 0
@@ -107,7 +107,7 @@ BlockStep old c _ _ = ⊥
 
 abbrev pub DeviceStep : SessionValue SimVulkan → Line → Reply → Stage → Type 0
 DeviceStep s (lines.Other c) (replies.Device r) new = ServesSaid s c r new
-DeviceStep s (lines.Asks c) (replies.Device r) new = Serves s (command_of c) r new
+DeviceStep s (lines.Asks c) (replies.Device r) new = StageServes s (command_of c) r new
 DeviceStep s lines.Destroy (replies.Device r) new = Ends s r new
 DeviceStep s _ _ _ = ⊥
 
@@ -183,7 +183,7 @@ FitsLine _ = Unit {0}
 
 -- a session served a command
 abbrev pub ServedSo : SessionValue SimVulkan → SessionCommand → Outcome Reply → Stage → Type 0
-ServedSo s command (Replied (replies.Device r)) new = Serves s command r new
+ServedSo s command (Replied (replies.Device r)) new = StageServes s command r new
 ServedSo s command _ new = ⊥
 
 abbrev pub MatchServed : SessionValue SimVulkan → SessionCommand → Stage × Outcome Reply → Type 0

@@ -1,7 +1,7 @@
 //! A block or device trace, as the run of a trace of any sort sees it.
 
 ghost use Rattle.std.specs.Prelude.{IfOk};
-ghost use Rattle.gpu_trace_text.specs.BlockOrDevice.{Serves};
+ghost use Rattle.gpu_trace_text.specs.BlockOrDevice.{AnyStageServes};
 
 use crate::stage::Stage;
 use crate::{Outcome, Reply, Trace, read};
@@ -17,7 +17,7 @@ fn serve<L: Log>(
     stage: Stage,
     line: &[u8],
 ) -> Result<(Stage, Outcome<Reply>), AllocError>
-    ensures { IfOk result (λ r. Serves stage line.now r.1 r.0) }
+    ensures { IfOk result (λ r. AnyStageServes stage line.now r.1 r.0) }
 {
     match read::<Stage>(alloc, line) {
         Ok(line) => stage.serve(log, alloc, line),
@@ -30,11 +30,11 @@ fn serve<L: Log>(
 
 impl Trace for Stage {
     ghost use Rattle.gpu_trace_text.specs.Reply.{reply_line};
-    ghost use Rattle.gpu_trace_text.specs.BlockOrDevice.{Serves};
+    ghost use Rattle.gpu_trace_text.specs.BlockOrDevice.{AnyStageServes};
 
     type Reply = Reply;
 
-    ghost does = { Serves };
+    ghost does = { AnyStageServes };
 
     ghost reply_line = { reply_line };
 

@@ -18,7 +18,7 @@ ghost use Rattle.gpu_trace_text.specs.Dialect.{new_words, destroy_words};
 ghost use Rattle.gpu_trace_text.specs.Ask.{FitsBudget};
 ghost use Rattle.gpu_trace_text.specs.Captured.{BeginsWith, FitsCaptured, IsAlloc, IsMove, IsRename};
 ghost use Rattle.gpu_trace_text.specs.Line.{Means};
-ghost use Rattle.gpu_trace_text.specs.Setting.{words as setting_words, Fits as FitsSetting};
+ghost use Rattle.gpu_trace_text.specs.Setting.{words as setting_words, SettingFits as FitsSetting};
 ghost use Rattle.gpu_trace_text.specs.declared.device.setting.Setting.{Setting};
 ghost use Rattle.gpu_trace_text.specs.declared.dialect.Line.TheVariants as lines;
 ghost use Rattle.gpu_trace_text.specs.CapturedCalls.{FitsCall, IsCall, refuse_setting, device_settings};

@@ -24,9 +24,9 @@ impl Dialect for Stage {
 
     type Other = Command;
 
-    ghost is_setting = { Spells setting.words setting.Fits };
+    ghost is_setting = { Spells setting.words setting.SettingFits };
 
-    ghost is_command = { Spells ask.words ask.Fits };
+    ghost is_command = { Spells ask.words ask.CommandFits };
 
     ghost is_other = { block.Spells };
 

@@ -1,7 +1,7 @@
 //! How far a trace has come.
 
 ghost use Rattle.std.specs.Prelude.{IfOk};
-ghost use Rattle.gpu_block_session.specs.BlockWords.{Fits};
+ghost use Rattle.gpu_block_session.specs.BlockWords.{CommandFits};
 ghost use Rattle.gpu_run.specs.VulkanServed.{command_of};
 ghost use Rattle.gpu_trace_text.specs.Stage.{IsSound, Begins, Does, MatchServed, Ended, FitsLine};
 ghost use Rattle.gpu_block_session.specs.declared.block_stage.BlockStage.TheVariants as block_stages;
@@ -37,7 +37,7 @@ pub enum Stage {
 
 /// Serves a command of a block trace.
 fn serve_block(mut stage: BlockStage, alloc: Global, command: Command) -> (Stage, Outcome<Reply>)
-    requires { Fits command }
+    requires { CommandFits command }
     ensures { Does (Stage.Block stage) (lines.Other command) result.1 result.0 }
 {
     match stage.serve(alloc, &command) {

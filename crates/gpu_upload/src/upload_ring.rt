@@ -1,7 +1,7 @@
 //! A ring over one mapped allocation of the Vulkan allocator.
 
 ghost use Rattle.std.specs.Prelude.{◌≡◌, ℕ, ◌+◌, ◌%◌, ◌^◌, ◌<◌, ◌≤◌, length, IfOk, IfErr, IfSome, IsTrue, MatchOption};
-ghost use Rattle.gpu_ring.specs.Calls.{empty_ring, Allocates, EndsFrame, Retires, bytes_up_to};
+ghost use Rattle.gpu_ring.specs.Calls.{empty_ring, RingAllocates, EndsFrame, Retires, bytes_up_to};
 ghost use Rattle.gpu_ring.specs.Line.{IsTaken, Apart};
 ghost use Rattle.gpu_vulkan.specs.Live.{IsMapped};
 ghost use Rattle.gpu_upload.specs.Upload.{Writes, KeepsTaken, LiesTaken};
@@ -56,7 +56,7 @@ impl UploadRing {
     pub fn allocate(&mut self, size: u64, alignment: u64) -> Option<u64>
         requires some { 0 < size }
         requires aligned { 0 < alignment }
-        ensures allocates { Allocates self.old.ring size alignment result self.new.ring }
+        ensures allocates { RingAllocates self.old.ring size alignment result self.new.ring }
         ensures same { self.new.allocation ≡ self.old.allocation }
         // the piece shares no byte with any that lies in the taken ones
         ensures apart { IfSome result (λ o. (p m : ℕ) → 0 < m → LiesTaken self.old p m
@@ -97,7 +97,7 @@ impl UploadRing {
             self.old.allocation }
         requires some { 0 < length bytes.now }
         requires aligned { 0 < alignment }
-        ensures allocates { Allocates self.old.ring (length bytes.now) alignment result
+        ensures allocates { RingAllocates self.old.ring (length bytes.now) alignment result
             self.new.ring }
         ensures same { self.new.allocation ≡ self.old.allocation }
         ensures writes { MatchOption result (allocator.new ≡ allocator.old)

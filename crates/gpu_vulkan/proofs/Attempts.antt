@@ -15,7 +15,7 @@ use Rattle.gpu_vulkan.specs.Setup.{Setup}
 use Rattle.gpu_vulkan.specs.Types.{heap_size, is_mapped, kinds_of_device}
 use Rattle.gpu_vulkan.specs.declared.describe.AllocationCreateDesc.{AllocationCreateDesc}
 use Rattle.gpu_pool.specs.Allocate as pools
-use Rattle.gpu_pool.specs.Allocate.{Environment, NothingMet, NoHostMemory, Answered, Serves}
+use Rattle.gpu_pool.specs.Allocate.{Environment, NothingMet, NoHostMemory, Answered, PoolServes}
 use Rattle.gpu_pool.specs.State as states
 use Rattle.gpu_pool.specs.State.{over}
 use Rattle.gpu_pool.proofs.Serving.{serves_over, serves_constant, SourceAfter, serves_source}
@@ -69,7 +69,7 @@ module _ {D : Type 0} (g : Ghosts D) (i : ℕ) (d : AllocationCreateDesc) (old n
   q = pools.request_at i r d.allocation_scheme
 
   abbrev Served : Environment DeviceMemory → Answer → Type 0
-  Served met answer = Serves kinds (AsksBlock g) q old met answer new
+  Served met answer = PoolServes kinds (AsksBlock g) q old met answer new
 
   request_is : q ≡ request_in i d
   request_is j = record { memory_type = i; requested_dedicated = own j; request = asks j; extra = d.allocation_scheme }
@@ -79,7 +79,7 @@ module _ {D : Type 0} (g : Ghosts D) (i : ℕ) (d : AllocationCreateDesc) (old n
   source_constant NoHostMemory same = (ap (λ (s : SourceState D). s.first) same, ap (λ (s : SourceState D). s.setup) same)
   source_constant (Answered size block) a = (ap (λ (s : SourceState D). s.first) a.state, ap (λ (s : SourceState D). s.setup) a.state)
 
-  pub constant : (answer : Answer) → pools.Allocates kinds (AsksBlock g) q old answer new → IsConstant old new
+  pub constant : (answer : Answer) → pools.PoolAllocates kinds (AsksBlock g) q old answer new → IsConstant old new
   constant answer a =
       let same = serves_constant kinds (AsksBlock g) q old a.0 answer new a.1 in
       let source = source_constant a.0 (serves_source kinds (AsksBlock g) q old a.0 answer new a.1) in
@@ -89,16 +89,16 @@ module _ {D : Type 0} (g : Ghosts D) (i : ℕ) (d : AllocationCreateDesc) (old n
 
   -- the same, where nothing is seen of the source
   unseen_serves : (met : Environment DeviceMemory) (answer : Answer) → Served met answer
-      → Serves kinds AnyQuestion (request_in i d) (unseen setup old.budgets old.slots) met answer (unseen setup old.budgets new.slots)
+      → PoolServes kinds AnyQuestion (request_in i d) (unseen setup old.budgets old.slots) met answer (unseen setup old.budgets new.slots)
   unseen_serves met answer serves =
       let same = serves_constant kinds (AsksBlock g) q old met answer new serves in
       let hide : SourceState D → Unit {0} = λ s. tt in
       let before : over hide old ≡ unseen setup old.budgets old.slots = refl in
       let after : over hide new ≡ unseen setup old.budgets new.slots = λ j. record { source = tt; sizes = same.0 j; slots = new.slots; budgets = same.1 j } in
-      let here : Serves kinds AnyQuestion q (over hide old) met answer (over hide new) = serves_over kinds (AsksBlock g) AnyQuestion hide q old new (λ size result k. tt) met answer serves in
-      subst (λ (k : pools.RequestAt AllocationScheme). Serves kinds AnyQuestion k (unseen setup old.budgets old.slots) met answer (unseen setup old.budgets new.slots)) request_is
-      (subst (λ (s : states.State (Unit {0}) DeviceMemory). Serves kinds AnyQuestion q (unseen setup old.budgets old.slots) met answer s) after
-      (subst (λ (s : states.State (Unit {0}) DeviceMemory). Serves kinds AnyQuestion q s met answer (over hide new)) before here))
+      let here : PoolServes kinds AnyQuestion q (over hide old) met answer (over hide new) = serves_over kinds (AsksBlock g) AnyQuestion hide q old new (λ size result k. tt) met answer serves in
+      subst (λ (k : pools.RequestAt AllocationScheme). PoolServes kinds AnyQuestion k (unseen setup old.budgets old.slots) met answer (unseen setup old.budgets new.slots)) request_is
+      (subst (λ (s : states.State (Unit {0}) DeviceMemory). PoolServes kinds AnyQuestion q (unseen setup old.budgets old.slots) met answer s) after
+      (subst (λ (s : states.State (Unit {0}) DeviceMemory). PoolServes kinds AnyQuestion q s met answer (over hide new)) before here))
 
   -- the pool's answer, with what the device was asked
   answered : (o : AttemptEnvironment) (met : Environment DeviceMemory) (answer : Answer) (result : Result Allocation AllocationError) → IsMet o met → IsAskedFor setup i d o.asked
@@ -121,7 +121,7 @@ module _ {D : Type 0} (g : Ghosts D) (i : ℕ) (d : AllocationCreateDesc) (old n
       let o : Asked = record { info = question setup i size d.allocation_scheme; answer = a.answer } in
       answered (record { host = true; asked = Some o }) (Answered size block) answer result (refl, (o, refl, refl, a.is_result)) (refl, a.asks.fits) a.asks
 
-  pub attempted : (answer : Answer) (result : Result Allocation AllocationError) → pools.Allocates kinds (AsksBlock g) q old answer new → d.requirements.size ≤ heap_size setup.properties i
+  pub attempted : (answer : Answer) (result : Result Allocation AllocationError) → pools.PoolAllocates kinds (AsksBlock g) q old answer new → d.requirements.size ≤ heap_size setup.properties i
       → Answers setup i d result answer → IsAttempt g setup old.budgets i d old.slots old.source.device result new.slots new.source.device
   attempted answer result a = attempted_by a.0 answer result (serves_source kinds (AsksBlock g) q old a.0 answer new a.1) a.1
 
@@ -135,7 +135,7 @@ begun_alike g i d here also budgets others old device result new after same alik
 
 -- a refused request leaves the slots
 served_same : (setup : Setup) (budgets : Budgets) (old : Slots) (t : ℕ) (d : AllocationCreateDesc) (met : Environment DeviceMemory) (r : Refusal) (new : Slots)
-    → Serves (kinds_of_device setup.properties) AnyQuestion (request_in t d) (unseen setup budgets old) met (Err r) (unseen setup budgets new) → new ≡ old
+    → PoolServes (kinds_of_device setup.properties) AnyQuestion (request_in t d) (unseen setup budgets old) met (Err r) (unseen setup budgets new) → new ≡ old
 served_same here budgets old t d NothingMet r new a = ap (λ (s : states.State (Unit {0}) DeviceMemory). s.slots) a.1
 served_same here budgets old t d NoHostMemory r new a = ap (λ (s : states.State (Unit {0}) DeviceMemory). s.slots) a.1
 served_same here budgets old t d (Answered size (Ok memory)) r new a = absurd a
@@ -165,7 +165,7 @@ module _ {D : Type 0} (g : Ghosts D) (mapped : Bool) (device after : D) where
 
   module _ (setup : Setup) (budgets : Budgets) (old : Slots) (t : ℕ) (d : AllocationCreateDesc) (o : AttemptEnvironment) (r : Refusal) (new : Slots) where
     served_held : (met : Environment DeviceMemory) → IsMet o met
-        → Serves (kinds_of_device setup.properties) AnyQuestion (request_in t d) (unseen setup budgets old) met (Err r) (unseen setup budgets new) → IsAfter g device mapped o.asked after
+        → PoolServes (kinds_of_device setup.properties) AnyQuestion (request_in t d) (unseen setup budgets old) met (Err r) (unseen setup budgets new) → IsAfter g device mapped o.asked after
         → g.held after ≡ g.held device
     served_held NothingMet is serves asked = unasked_held o.asked is.1 asked
     served_held NoHostMemory is serves asked = unasked_held o.asked is.1 asked

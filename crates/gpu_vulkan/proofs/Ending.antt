@@ -16,7 +16,7 @@ use Rattle.gpu_device.specs.declared.vulkan.device.VulkanDevice.{Ghosts}
 use Rattle.gpu_device.specs.declared.vulkan.types.DeviceMemory.{DeviceMemory}
 use Rattle.gpu_pool.proofs.Freeing.{type_below}
 use Rattle.gpu_vulkan.specs.Blocks.{Slots}
-use Rattle.gpu_vulkan.specs.Free.{FreesPiece, Frees}
+use Rattle.gpu_vulkan.specs.Free.{FreesPiece, AllocatorFrees}
 use Rattle.gpu_vulkan.specs.Lends.{AreDistinct}
 use Rattle.gpu_vulkan.specs.Live.{IsLive, IsLiveIn, is_same_memory}
 use Rattle.gpu_vulkan.specs.declared.allocation.Allocation.{Allocation}
@@ -50,6 +50,6 @@ module _ {D : Type 0} (g : Ghosts D) (a : Allocation) (old : Slots) (device : D)
   left_with (Some n) result f live = piece_left (record { slot = a.memory_block_index; chunk_id = n; offset = a.offset; size = a.size; handle = a.device_memory }) result f live
 
   -- a live allocation that is freed counts no more
-  pub freed_fewer : (result : Result (Unit {0}) (AllocationError × Allocation)) → Frees g a old device result new after → IsLive old a
+  pub freed_fewer : (result : Result (Unit {0}) (AllocationError × Allocation)) → AllocatorFrees g a old device result new after → IsLive old a
       → moves_left (slots_at new t) + slots_above (slots_at old t) a.memory_block_index ≤ moves_left (slots_at old t)
   freed_fewer result f live = left_with a.chunk_id result f live

@@ -21,10 +21,10 @@ use Rattle.gpu_vulkan.specs.EqualButBytes.{EqualButBytesAnswer, EqualButBytesAsk
 use Rattle.gpu_vulkan.specs.EqualButBytes.{EqualButBytesReply}
 use Rattle.gpu_core.proofs.Options.{none_some, some_same}
 use Rattle.gpu_device.specs.declared.vulkan.types.AllocationScheme.{AllocationScheme}
-use Rattle.gpu_pool.specs.Allocate.{RequestAt, Environment, NothingMet, NoHostMemory, Answered, Serves}
+use Rattle.gpu_pool.specs.Allocate.{RequestAt, Environment, NothingMet, NoHostMemory, Answered, PoolServes}
 use Rattle.gpu_vulkan.specs.Source.{IsResult}
 use Rattle.gpu_vulkan.proofs.Following.{next_below, best_below}
-use Rattle.gpu_vulkan.specs.Attempt.{AttemptEnvironment, Asked, Answer, IsMet, request_in, unseen, AnyQuestion, Allocates}
+use Rattle.gpu_vulkan.specs.Attempt.{AttemptEnvironment, Asked, Answer, IsMet, request_in, unseen, AnyQuestion, AttemptAllocates}
 use Rattle.gpu_vulkan.specs.BlockAnswer.{BlockAnswer, Declined, Granted, Mapped, NotMapped, answer_number, answer_refusal, question_recorded}
 use Rattle.gpu_vulkan.specs.Types.{is_mapped, kinds_of_device}
 use Rattle.gpu_vulkan.specs.Blocks.{Slots}
@@ -154,10 +154,10 @@ module _ (setup : Setup) (d e : AllocationCreateDesc) (same : EqualButBytesDescr
   within_alike budgets old t o p x y new next there sound met a b =
       let k = b.allocates in
       let kinds = kinds_of_device setup.properties in
-      let other : Allocates setup budgets old t d o y next = record {
+      let other : AttemptAllocates setup budgets old t d o y next = record {
         met = k.met;
         is_met = met_alike o p k.met met k.is_met;
-        serves = subst (λ (q : RequestAt AllocationScheme). Serves kinds AnyQuestion q (unseen setup budgets old) k.met y (unseen setup budgets next)) (sym (same_request_in t)) k.serves;
+        serves = subst (λ (q : RequestAt AllocationScheme). PoolServes kinds AnyQuestion q (unseen setup budgets old) k.met y (unseen setup budgets next)) (sym (same_request_in t)) k.serves;
       } in
       allocates_once setup budgets old t d there sound o x y new next a.allocates other
 

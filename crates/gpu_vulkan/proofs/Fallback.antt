@@ -3,7 +3,7 @@ use Rattle.std.proofs.Common.{◌≡◌, ◌∙◌, refl, subst, ℕ, ◌%◌, O
 use Rattle.gpu_values.specs.Refusal.{refusal_of}
 use Rattle.gpu_values.specs.declared.error.AllocationError.{AllocationError}
 use Rattle.gpu_device.specs.declared.vulkan.device.VulkanDevice.{Ghosts}
-use Rattle.gpu_vulkan.specs.Allocate.{IsAttempt, IsServed, next_type}
+use Rattle.gpu_vulkan.specs.Allocate.{IsAttempt, IsRequestServed, next_type}
 use Rattle.gpu_vulkan.specs.Lends.{AreDistinct}
 use Rattle.gpu_vulkan.specs.Live.{IsLive}
 use Rattle.gpu_vulkan.specs.Rename.{StayLive}
@@ -20,15 +20,15 @@ pub record Tries {D : Type 0} (g : Ghosts D) (t : ℕ) (d : AllocationCreateDesc
   pub live : IfOk result (λ a. IsLive new.slots a × ((b : Allocation) → IsLive old.slots b → AreDistinct b a))
 
 -- the same of both attempts
-pub record Serves {D : Type 0} (g : Ghosts D) (t : ℕ) (d : AllocationCreateDesc) (old : Pool D) (result : Result Allocation AllocationError) (new : Pool D) : Type 0 where
-  pub served : IsServed g (setup_of old) old.budgets t d old.slots old.source.device result new.slots new.source.device
+pub record TypeServes {D : Type 0} (g : Ghosts D) (t : ℕ) (d : AllocationCreateDesc) (old : Pool D) (result : Result Allocation AllocationError) (new : Pool D) : Type 0 where
+  pub served : IsRequestServed g (setup_of old) old.budgets t d old.slots old.source.device result new.slots new.source.device
   pub constant : IsConstant old new
   pub aligned : IfOk result (λ a. a.offset % d.requirements.alignment ≡ 0)
   pub keeps : StayLive old.slots new.slots
   pub live : IfOk result (λ a. IsLive new.slots a × ((b : Allocation) → IsLive old.slots b → AreDistinct b a))
 
 module _ {D : Type 0} (g : Ghosts D) (t : ℕ) (d : AllocationCreateDesc) (old : Pool D) where
-  pub granted_at_once : (a : Allocation) (new : Pool D) → Tries g t d old (Ok a) new → Serves g t d old (Ok a) new
+  pub granted_at_once : (a : Allocation) (new : Pool D) → Tries g t d old (Ok a) new → TypeServes g t d old (Ok a) new
   granted_at_once a new tried =
       record {
         served = record { first = Ok a; mid = new.slots; between = new.source.device; attempt = tried.attempts; followed = (refl, refl, refl) };
@@ -38,7 +38,7 @@ module _ {D : Type 0} (g : Ghosts D) (t : ℕ) (d : AllocationCreateDesc) (old :
         live = tried.live;
       }
 
-  pub refused_at_once : (e : AllocationError) (new : Pool D) → Tries g t d old (Err e) new → next_type (setup_of old) d (refusal_of e) ≡ None → Serves g t d old (Err e) new
+  pub refused_at_once : (e : AllocationError) (new : Pool D) → Tries g t d old (Err e) new → next_type (setup_of old) d (refusal_of e) ≡ None → TypeServes g t d old (Err e) new
   refused_at_once e new tried none =
       record {
         served = record { first = Err e; mid = new.slots; between = new.source.device; attempt = tried.attempts; followed = rw none (refl, refl, refl) };
@@ -55,7 +55,7 @@ module _ {D : Type 0} (g : Ghosts D) (t : ℕ) (d : AllocationCreateDesc) (old :
   later_live mid new (Err e) keeps live = tt
 
   pub tried_again : (e : AllocationError) (mid : Pool D) → Tries g t d old (Err e) mid → (next : ℕ) → next_type (setup_of old) d (refusal_of e) ≡ Some next
-      → (result : Result Allocation AllocationError) (new : Pool D) → Tries g next d mid result new → Serves g t d old result new
+      → (result : Result Allocation AllocationError) (new : Pool D) → Tries g next d mid result new → TypeServes g t d old result new
   tried_again e mid tried next is result new again =
       let setup = tried.constant.setup in
       let budgets = tried.constant.budgets in

@@ -26,7 +26,7 @@ use Rattle.gpu_core.specs.Held.{HasEntry}
 use Rattle.gpu_vulkan.specs.ByteView.{ByteView, byte_view_of, JoinsRest}
 use Rattle.gpu_vulkan.specs.BlockAnswer.{free_recorded}
 use Rattle.gpu_vulkan.specs.Free.{GivesBack, IsReleased}
-use Rattle.gpu_vulkan.specs.Free.{FreesPiece, Frees}
+use Rattle.gpu_vulkan.specs.Free.{FreesPiece, AllocatorFrees}
 use Rattle.gpu_vulkan.specs.Live.{is_same_memory, IsLiveIn}
 use Rattle.gpu_vulkan.specs.Live.{piece_of}
 use Rattle.gpu_vulkan.specs.Setup.{Setup}
@@ -180,7 +180,7 @@ module _ {D : Type 0} (g : Ghosts D) (old new : Pool D) where
 
   module _ (a : Allocation) (p : Piece DeviceMemory) where
     abbrev FreesIt : Result (Unit {0}) Refusal → Type 0
-    FreesIt result = pools.Frees (GivesMemoryBack g) is_same_memory a.memory_type_index p old result new
+    FreesIt result = pools.PoolFrees (GivesMemoryBack g) is_same_memory a.memory_type_index p old result new
 
     pub piece_freed : FreesIt (Ok tt) → FreesPiece g a (Some p) old.slots old.source.device (Ok tt) new.slots new.source.device
     piece_freed f =
@@ -238,7 +238,7 @@ module _ {D : Type 0} (g : Ghosts D) (first : Held) (old new : State D) (sound :
       }
   frees_as a (Some p) is (Err e) f = record { answer = Err (refusal_of e.0); reply = refl; step = (f.0, f.1, same_model f.3 f.4); count = ap g.refused f.4; latest = ap g.latest f.4 }
 
-  pub free_step : (a : Allocation) (result : Result (Unit {0}) (AllocationError × Allocation)) → Frees g a old.slots old.device result new.slots new.device → IsStep g (Free a) (freed_as result) old
+  pub free_step : (a : Allocation) (result : Result (Unit {0}) (AllocationError × Allocation)) → AllocatorFrees g a old.slots old.device result new.slots new.device → IsStep g (Free a) (freed_as result) old
       new
   free_step a result f =
       let s = frees_as a (piece_of a) refl result f in

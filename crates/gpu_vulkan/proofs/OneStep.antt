@@ -15,15 +15,15 @@ use Rattle.gpu_vulkan.specs.Allocate.{Attempts, IsTooLarge, IsWithinHeap, is_val
 use Rattle.gpu_vulkan.specs.Attempt.{AttemptEnvironment, Asked, Answer, IsMet, request_in, unseen, AnyQuestion, AnyBlockBack}
 use Rattle.gpu_vulkan.specs.Types.{is_mapped, kinds_of_device}
 use Rattle.gpu_core.proofs.Options.{none_some, some_same}
-use Rattle.gpu_pool.specs.Allocate.{Environment, NothingMet, NoHostMemory, Answered, Serves}
+use Rattle.gpu_pool.specs.Allocate.{Environment, NothingMet, NoHostMemory, Answered, PoolServes}
 use Rattle.gpu_pool.specs.State as states
 use Rattle.gpu_pool.specs.State.{kind_at, IsSoundAt}
 use Rattle.gpu_pool.specs.Step.{AskDecides, GiveBackDecides, SetsBudgetOf}
-use Rattle.gpu_pool.specs.Free.{Frees}
+use Rattle.gpu_pool.specs.Free.{PoolFrees}
 use Rattle.gpu_pool.specs.Move.{ProposesBy}
 use Rattle.gpu_pool.specs.Rename.{RenamesBy}
 use Rattle.gpu_pool.proofs.OneStep.{serves_once, frees_once, renames_once, proposes_once, sets_once, makes_once}
-use Rattle.gpu_vulkan.specs.Attempt.{Allocates}
+use Rattle.gpu_vulkan.specs.Attempt.{AttemptAllocates}
 use Rattle.gpu_vulkan.specs.BlockAnswer.{BlockAnswer, Declined, Granted, Mapped, NotMapped}
 use Rattle.gpu_vulkan.specs.Source.{IsResult}
 use Rattle.gpu_vulkan.specs.Blocks.{Slots}
@@ -85,13 +85,13 @@ unseen_decides : AskDecides AnyQuestion
 unseen_decides old a b t size extra answer x y = refl
 
 module _ (setup : Setup) (budgets : Budgets) (old : Slots) (t : ℕ) (d : AllocationCreateDesc) (below : t < length setup.properties.types) (sound : BlocksWellFormed setup.properties.granularity old) where
-  pub allocates_once : (o : AttemptEnvironment) (x y : Answer) (new next : Slots) → Allocates setup budgets old t d o x new → Allocates setup budgets old t d o y next → (x ≡ y) × (new ≡ next)
+  pub allocates_once : (o : AttemptEnvironment) (x y : Answer) (new next : Slots) → AttemptAllocates setup budgets old t d o x new → AttemptAllocates setup budgets old t d o y next → (x ≡ y) × (new ≡ next)
   allocates_once o x y new next a b =
       let kinds = kinds_of_device setup.properties in
       let q = request_in t d in
       let start = unseen setup budgets old in
-      let other : Serves kinds AnyQuestion q start a.met y (unseen setup budgets next) =
-      subst (λ (m : Environment DeviceMemory). Serves kinds AnyQuestion q start m y (unseen setup budgets next)) (met_once o b.met a.met b.is_met a.is_met) b.serves in
+      let other : PoolServes kinds AnyQuestion q start a.met y (unseen setup budgets next) =
+      subst (λ (m : Environment DeviceMemory). PoolServes kinds AnyQuestion q start m y (unseen setup budgets next)) (met_once o b.met a.met b.is_met a.is_met) b.serves in
       let once = serves_once kinds AnyQuestion unseen_decides q start (sound_told setup.properties t below old sound) a.met x y (unseen setup budgets new) (unseen setup budgets next) a.serves other in
       (once.0, ap (λ (s : states.State (Unit {0}) DeviceMemory). s.slots) once.1)
 
@@ -272,7 +272,7 @@ module _ (setup : Setup) (old new twin next : ModelState) (sound : BlocksWellFor
   sound_for : (t : ℕ) → IsSoundAt (kinds_for t) old.slots t
   sound_for t = subst (λ (k : Bool × ℕ). AreSound k.1 (slots_at old.slots t)) (sym (paged setup.properties.granularity t).1) (sound t)
 
-  frees_in : (t : ℕ) (p : Piece DeviceMemory) (x : Result (Unit {0}) Refusal) (s e : ModelState) → FreeStep setup t (Some p) x s e → Frees AnyBlockBack is_same_memory t p (pool s) x (pool e)
+  frees_in : (t : ℕ) (p : Piece DeviceMemory) (x : Result (Unit {0}) Refusal) (s e : ModelState) → FreeStep setup t (Some p) x s e → PoolFrees AnyBlockBack is_same_memory t p (pool s) x (pool e)
   frees_in t p (Ok u) s e f = (f.live, f.frees)
   frees_in t p (Err r) s e f = (f.0, f.1, ap pool f.2)
 
@@ -282,7 +282,7 @@ module _ (setup : Setup) (old new twin next : ModelState) (sound : BlocksWellFor
   free_alike t None (Err r) y a b = absurd a
   free_alike t (Some p) x y a b =
       let once = frees_once (kinds_for t) AnyBlockBack back_decides is_same_memory t p (pool old) (sound_for t) x y (pool new) (pool next) (frees_in t p x old new a)
-      (subst (λ (s : Pool). Frees AnyBlockBack is_same_memory t p s y (pool next)) start (frees_in t p y twin next b)) in
+      (subst (λ (s : Pool). PoolFrees AnyBlockBack is_same_memory t p s y (pool next)) start (frees_in t p y twin next b)) in
       (once.0, ends once.1)
 
   pub rename_alike : (t : ℕ) (p : Option (Piece DeviceMemory)) (name : List ℕ) (host : Bool) (x y : Result (Unit {0}) Refusal) → RenameStep setup t p name host x old new

@@ -21,7 +21,7 @@ use Rattle.gpu_device.proofs.Changes.{get-mapped_other, bytes-mapped, new_is_unm
 use Rattle.gpu_core.specs.Budgets.{Budgets}
 use Rattle.gpu_vulkan.specs.Allocate.{IsTooLarge, IsWithinHeap, IsAttempt}
 use Rattle.gpu_core.proofs.Options.{none_some, some_same}
-use Rattle.gpu_pool.specs.Allocate.{Environment, NothingMet, NoHostMemory, Answered, Serves}
+use Rattle.gpu_pool.specs.Allocate.{Environment, NothingMet, NoHostMemory, Answered, PoolServes}
 use Rattle.gpu_pool.specs.State as states
 use Rattle.gpu_vulkan.specs.Describe.{request_of}
 use Rattle.gpu_vulkan.specs.Attempt.{AttemptEnvironment, Asked, Answer, IsAfter, IsMet, request_in, unseen, AnyQuestion}
@@ -184,7 +184,7 @@ module _ {D : Type 0} (g : Ghosts D) (setup : Setup) (budgets : Budgets) (d : Al
         (subst (λ (k : D). BytesAfter mapped t None (Ok p) (byte_view_of (g.held k) old) (byte_view_of (g.held after) (slice_set old t x))) same here))
 
     served_by : (o : AttemptEnvironment) (met : Environment DeviceMemory) (answer : Answer) → IsMet o met → IsAfter g device mapped o.asked after
-        → Serves (kinds_of_device setup.properties) AnyQuestion (request_in t d) (unseen setup budgets old) met answer (unseen setup budgets new) → Bytes o.asked answer
+        → PoolServes (kinds_of_device setup.properties) AnyQuestion (request_in t d) (unseen setup budgets old) met answer (unseen setup budgets new) → Bytes o.asked answer
     served_by o NothingMet (Ok p) is asked a = shared_bytes o.asked p a.left is.1 asked a.takes (ap (λ (s : states.State (Unit {0}) DeviceMemory). s.slots) a.state)
     served_by o NothingMet (Err e) is asked a =
         same_bytes o.asked e new (g.held device) (g.held after) (ap (λ (s : states.State (Unit {0}) DeviceMemory). s.slots) a.1) (unasked_held g mapped device after o.asked is.1 asked)

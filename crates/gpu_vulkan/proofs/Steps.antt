@@ -8,7 +8,7 @@ use Rattle.gpu_device.specs.Held.{Held, IsWhole}
 use Rattle.gpu_device.specs.declared.vulkan.device.VulkanDevice.{Ghosts}
 use Rattle.gpu_device.specs.declared.vulkan.types.DeviceMemory.{DeviceMemory}
 use Rattle.gpu_core.specs.Budgets.{Budgets}
-use Rattle.gpu_vulkan.specs.Allocate.{Attempts, IsAttempt, Answers, IsServed, IsFollowed, is_valid, next_after, next_type}
+use Rattle.gpu_vulkan.specs.Allocate.{Attempts, IsAttempt, Answers, IsRequestServed, IsFollowed, is_valid, next_after, next_type}
 use Rattle.gpu_vulkan.specs.Attempt.{AttemptEnvironment, Asked, Answer, IsAfter}
 use Rattle.gpu_vulkan.specs.Types.{is_mapped}
 use Rattle.gpu_vulkan.specs.Blocks.{Slots, HoldsJustLiveBlocks}
@@ -94,7 +94,7 @@ module _ {D : Type 0} (g : Ghosts D) (whole : (x : D) (n : ℕ) → IsWhole (get
 
   module _ (t : ℕ) (old : Slots) (device : D) (result : Result Allocation AllocationError) (new : Slots) (after : D) (below : t < length old) (long : length old ≡ length setup.properties.types)
       (sound : BlocksWellFormed setup.properties.granularity old) (sound_after : BlocksWellFormed setup.properties.granularity new)
-      (before : HoldsJustLiveBlocks setup.properties first (g.held device) old) (holds : HoldsJustLiveBlocks setup.properties first (g.held after) new) (s : IsServed g setup budgets t d old device result new after) where
+      (before : HoldsJustLiveBlocks setup.properties first (g.held device) old) (holds : HoldsJustLiveBlocks setup.properties first (g.held after) new) (s : IsRequestServed g setup budgets t d old device result new after) where
     abbrev one : IsAttempt g setup budgets t d old device s.first s.mid s.between
     one = s.attempt
 

@@ -11,13 +11,13 @@ use Rattle.gpu_device.specs.declared.vulkan.device.VulkanDevice.{Ghosts}
 use Rattle.gpu_device.specs.declared.vulkan.types.DeviceMemory.{DeviceMemory}
 use Rattle.gpu_device.specs.declared.vulkan.types.MemoryAllocateInfo.{MemoryAllocateInfo}
 use Rattle.gpu_core.specs.Budgets.{Budgets}
-use Rattle.gpu_vulkan.specs.Allocate.{IsAttempt, IsFollowed, IsFound, AllocatesBy, Allocates, is_valid}
+use Rattle.gpu_vulkan.specs.Allocate.{IsAttempt, IsFollowed, IsFound, AllocatesBy, AllocatorAllocates, is_valid}
 use Rattle.gpu_vulkan.specs.Attempt.{Asked, IsAfter}
 use Rattle.gpu_vulkan.specs.BlockAnswer.{BlockAnswer, Declined, Granted, Mapped, NotMapped, IsNew, answer_number, held_after}
 use Rattle.gpu_vulkan.specs.Types.{is_mapped}
 use Rattle.gpu_vulkan.specs.Blocks.{Slots}
 use Rattle.gpu_vulkan.specs.Free.{GivesBack}
-use Rattle.gpu_vulkan.specs.Free.{FreesPiece, Frees}
+use Rattle.gpu_vulkan.specs.Free.{FreesPiece, AllocatorFrees}
 use Rattle.gpu_vulkan.specs.Live.{piece_of}
 use Rattle.gpu_vulkan.specs.Setup.{Setup}
 use Rattle.gpu_vulkan.specs.Untouched.{LeavesMemory}
@@ -82,7 +82,7 @@ module _ {D : Type 0} (g : Ghosts D) where
   valid_leaves setup budgets d true old device result new after f = found_leaves setup budgets d _ old device result new after f
 
   pub allocate_leaves : (setup : Setup) (budgets : Budgets) (d : AllocationCreateDesc) (old new : Slots) (device after : D) (result : Result Allocation AllocationError)
-      → Allocates g setup budgets d old device result new after → LeavesMemory (g.held device) (g.held after)
+      → AllocatorAllocates g setup budgets d old device result new after → LeavesMemory (g.held device) (g.held after)
   allocate_leaves setup budgets d old new device after result f = leaves (g.held device) (g.held after) (valid_leaves setup budgets d (is_valid d) old device result new after f)
 
   given_back : (went : Option DeviceMemory) (device after : D) → GivesBack g device went after → LeavesMemory (g.held device) (g.held after)
@@ -100,6 +100,6 @@ module _ {D : Type 0} (g : Ghosts D) where
   piece_leaves a (Some p) old new device after (Ok u) f = given_back f.1.went device after f.1.gives_back
   piece_leaves a (Some p) old new device after (Err e) f = same_leaves (g.held device) (g.held after) (ap g.held f.4)
 
-  pub free_leaves : (a : Allocation) (old new : Slots) (device after : D) (result : Result (Unit {0}) (AllocationError × Allocation)) → Frees g a old device result new after → LeavesMemory
+  pub free_leaves : (a : Allocation) (old new : Slots) (device after : D) (result : Result (Unit {0}) (AllocationError × Allocation)) → AllocatorFrees g a old device result new after → LeavesMemory
       (g.held device) (g.held after)
   free_leaves a old new device after result f = piece_leaves a (piece_of a) old new device after result f

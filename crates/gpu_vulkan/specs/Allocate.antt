@@ -29,7 +29,7 @@ pub record IsTooLarge (setup : Setup) (old : Slots) (t : ℕ) (d : AllocationCre
 -- the request is within its heap, and its memory type allocates it or refuses it
 pub record IsWithinHeap (setup : Setup) (budgets : Budgets) (old : Slots) (t : ℕ) (d : AllocationCreateDesc) (o : AttemptEnvironment) (answer : Answer) (new : Slots) : Type 0 where
   pub below : d.requirements.size ≤ heap_size setup.properties t
-  pub allocates : attempts.Allocates setup budgets old t d o answer new
+  pub allocates : attempts.AttemptAllocates setup budgets old t d o answer new
   pub asked_for : IsAskedFor setup t d o.asked
 
 -- an attempt at the t-th memory type
@@ -92,7 +92,7 @@ IsFollowed g setup budgets d None mid between first result new after = (result �
 IsFollowed g setup budgets d (Some t) mid between first result new after = IsAttempt g setup budgets t d mid between result new after
 
 -- the attempts that begin at the t-th memory type
-pub record IsServed {D : Type 0} (g : Ghosts D) (setup : Setup) (budgets : Budgets) (t : ℕ) (d : AllocationCreateDesc) (old : Slots) (device : D) (result : Result Allocation AllocationError)
+pub record IsRequestServed {D : Type 0} (g : Ghosts D) (setup : Setup) (budgets : Budgets) (t : ℕ) (d : AllocationCreateDesc) (old : Slots) (device : D) (result : Result Allocation AllocationError)
     (new : Slots) (after : D) : Type 0 where
   pub first : Result Allocation AllocationError
   pub mid : Slots
@@ -113,7 +113,7 @@ is_valid d = not (d.requirements.size == 0) && is_power_of_two d.requirements.al
 -- an allocation in the memory type that suits, if one does
 abbrev pub IsFound : {D : Type 0} → Ghosts D → Setup → Budgets → AllocationCreateDesc → Option ℕ → Slots → D → Result Allocation AllocationError → Slots → D → Type 0
 IsFound g setup budgets d None old device result new after = IsRefused no_compatible_memory_type_found old device result new after
-IsFound g setup budgets d (Some t) old device result new after = IsServed g setup budgets t d old device result new after
+IsFound g setup budgets d (Some t) old device result new after = IsRequestServed g setup budgets t d old device result new after
 
 -- what an allocation results in, where the description is valid or isn't
 abbrev pub AllocatesBy : {D : Type 0} → Ghosts D → Setup → Budgets → AllocationCreateDesc → (valid : Bool) → Slots → D → Result Allocation AllocationError → Slots → D → Type 0
@@ -121,5 +121,5 @@ AllocatesBy g setup budgets d false old device result new after = IsRefused inva
 AllocatesBy g setup budgets d true old device result new after =
     IsFound g setup budgets d (best_type setup.properties.types d.requirements.memory_type_bits d.location) old device result new after
 
-abbrev pub Allocates : {D : Type 0} → Ghosts D → Setup → Budgets → AllocationCreateDesc → Slots → D → Result Allocation AllocationError → Slots → D → Type 0
-Allocates g setup budgets d old device result new after = AllocatesBy g setup budgets d (is_valid d) old device result new after
+abbrev pub AllocatorAllocates : {D : Type 0} → Ghosts D → Setup → Budgets → AllocationCreateDesc → Slots → D → Result Allocation AllocationError → Slots → D → Type 0
+AllocatorAllocates g setup budgets d old device result new after = AllocatesBy g setup budgets d (is_valid d) old device result new after

@@ -7,7 +7,7 @@ use Rattle.gpu_device.specs.declared.vulkan.types.AllocationScheme.{AllocationSc
 use Rattle.gpu_device.specs.declared.vulkan.types.DeviceMemory.{DeviceMemory}
 use Rattle.gpu_device.specs.declared.vulkan.types.MemoryAllocateInfo.{MemoryAllocateInfo}
 use Rattle.gpu_core.specs.Budgets.{Budgets}
-use Rattle.gpu_pool.specs.Allocate.{RequestAt, Environment, NothingMet, NoHostMemory, Answered, Serves}
+use Rattle.gpu_pool.specs.Allocate.{RequestAt, Environment, NothingMet, NoHostMemory, Answered, PoolServes}
 use Rattle.gpu_pool.specs.State as pools
 use Rattle.gpu_vulkan.specs.Describe.{requests_dedicated, request_of}
 use Rattle.gpu_vulkan.specs.Setup.{Setup}
@@ -56,10 +56,10 @@ IsMet o NoHostMemory = (o.host ≡ false) × (o.asked ≡ None)
 IsMet o (Answered size result) = (o.host ≡ true) × ((a : Asked) × (o.asked ≡ Some a) × (a.info.size ≡ size) × IsResult result a.answer)
 
 -- the t-th memory type allocates the piece or refuses it, as a pool does
-pub record Allocates (setup : Setup) (budgets : Budgets) (old : Slots) (t : ℕ) (d : AllocationCreateDesc) (o : AttemptEnvironment) (answer : Answer) (new : Slots) : Type 0 where
+pub record AttemptAllocates (setup : Setup) (budgets : Budgets) (old : Slots) (t : ℕ) (d : AllocationCreateDesc) (o : AttemptEnvironment) (answer : Answer) (new : Slots) : Type 0 where
   pub met : Environment DeviceMemory
   pub is_met : IsMet o met
-  pub serves : Serves (kinds_of_device setup.properties) AnyQuestion (request_in t d) (unseen setup budgets old) met answer (unseen setup budgets new)
+  pub serves : PoolServes (kinds_of_device setup.properties) AnyQuestion (request_in t d) (unseen setup budgets old) met answer (unseen setup budgets new)
 
 -- ---- over a device
 

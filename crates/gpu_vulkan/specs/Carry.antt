@@ -3,7 +3,7 @@ use Rattle.std.specs.Prelude.{◌≡◌, ◌⊎◌, List, ℕ, Some, None, Resul
 use Rattle.gpu_values.specs.Refusal.{refusal_of, host_out_of_memory}
 use Rattle.gpu_values.specs.declared.error.AllocationError.{AllocationError}
 use Rattle.gpu_device.specs.declared.vulkan.device.VulkanDevice.{Ghosts}
-use Rattle.gpu_vulkan.specs.Free.{Frees}
+use Rattle.gpu_vulkan.specs.Free.{AllocatorFrees}
 use Rattle.gpu_vulkan.specs.Lends.{ChangesOnly}
 use Rattle.gpu_vulkan.specs.Live.{IsMapped, bytes_at}
 use Rattle.gpu_vulkan.specs.State.{State}
@@ -21,7 +21,7 @@ pub record Carries {D : Type 0} (g : Ghosts D) (from to : Allocation) (old new :
   pub bytes : List ℕ
   pub read : bytes_at (g.held old.device) from ≡ Some bytes
   pub writes : ChangesOnly g old to bytes copied
-  pub frees : Frees g from copied.slots copied.device (Ok tt) new.slots new.device
+  pub frees : AllocatorFrees g from copied.slots copied.device (Ok tt) new.slots new.device
 
 -- from: the allocation that moves; d: its request again
 module _ {D : Type 0} (g : Ghosts D) (from : Allocation) (d : AllocationCreateDesc) where

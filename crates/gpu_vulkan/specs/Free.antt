@@ -49,5 +49,5 @@ FreesPiece g a (Some p) old device (Err e) new after =
     × (e.1 ≡ a) × (new ≡ old) × (after ≡ device)
 
 -- a null allocation is nothing to give back
-abbrev pub Frees : {D : Type 0} → Ghosts D → Allocation → Slots → D → Result (Unit {0}) (AllocationError × Allocation) → Slots → D → Type 0
-Frees g a old device result new after = FreesPiece g a (piece_of a) old device result new after
+abbrev pub AllocatorFrees : {D : Type 0} → Ghosts D → Allocation → Slots → D → Result (Unit {0}) (AllocationError × Allocation) → Slots → D → Type 0
+AllocatorFrees g a old device result new after = FreesPiece g a (piece_of a) old device result new after

@@ -10,8 +10,8 @@ ghost use Rattle.gpu_pool.specs.Told.{Reports, SetsBudgetAt, TextsLeaks};
 ghost use Rattle.gpu_pool.specs.Handles.{all_handles};
 ghost use Rattle.gpu_vulkan.specs.BlockAnswer.{frees_recorded};
 ghost use Rattle.gpu_vulkan.specs.Blocks.{HoldsJustLiveBlocks};
-ghost use Rattle.gpu_vulkan.specs.Allocate.{Allocates};
-ghost use Rattle.gpu_vulkan.specs.Free.{Frees};
+ghost use Rattle.gpu_vulkan.specs.Allocate.{AllocatorAllocates};
+ghost use Rattle.gpu_vulkan.specs.Free.{AllocatorFrees};
 ghost use Rattle.gpu_vulkan.specs.Apart.{IsInside, SharesNoByte, KeepsPages};
 ghost use Rattle.gpu_vulkan.specs.Lends.{AreDistinct};
 ghost use Rattle.gpu_vulkan.specs.declared.allocation.Allocation.{Allocation};
@@ -148,7 +148,7 @@ impl<D: VulkanDevice> Allocator<D> {
     /// block as it was, and the device holds what it held.
     pub fn allocate<L: Log>(&mut self, log: &L, desc: &AllocationCreateDesc) -> Result<Allocation>
         // which memory types are asked, one after another, what each attempt results in, and what the device then holds
-        ensures allocates { Allocates D.VulkanDevice self.old.setup self.old.budgets desc.now
+        ensures allocates { AllocatorAllocates D.VulkanDevice self.old.setup self.old.budgets desc.now
             self.old.slots self.old.device result self.new.slots self.new.device }
         ensures constant { (self.new.first ≡ self.old.first) × (self.new.setup ≡ self.old.setup)
             × (self.new.budgets ≡ self.old.budgets) }
@@ -222,7 +222,7 @@ impl<D: VulkanDevice> Allocator<D> {
         from: Allocation,
         to: &Allocation,
     ) -> Result<(), (AllocationError, Allocation)>
-        ensures frees { Frees D.VulkanDevice from self.old.slots self.old.device result
+        ensures frees { AllocatorFrees D.VulkanDevice from self.old.slots self.old.device result
             self.new.slots self.new.device }
         ensures constant { (self.new.first ≡ self.old.first) × (self.new.setup ≡ self.old.setup)
             × (self.new.budgets ≡ self.old.budgets) }
@@ -245,7 +245,7 @@ impl<D: VulkanDevice> Allocator<D> {
         from: &Allocation,
         to: Allocation,
     ) -> Result<(), (AllocationError, Allocation)>
-        ensures frees { Frees D.VulkanDevice to self.old.slots self.old.device result
+        ensures frees { AllocatorFrees D.VulkanDevice to self.old.slots self.old.device result
             self.new.slots self.new.device }
         ensures constant { (self.new.first ≡ self.old.first) × (self.new.setup ≡ self.old.setup)
             × (self.new.budgets ≡ self.old.budgets) }
@@ -455,7 +455,7 @@ impl<D: VulkanDevice> Allocator<D> {
         allocation: Allocation,
     ) -> Result<(), (AllocationError, Allocation)>
         // a null allocation is done at once; a live one goes; any other comes back, and nothing changes
-        ensures frees { Frees D.VulkanDevice allocation self.old.slots self.old.device result
+        ensures frees { AllocatorFrees D.VulkanDevice allocation self.old.slots self.old.device result
             self.new.slots self.new.device }
         ensures constant { (self.new.first ≡ self.old.first) × (self.new.setup ≡ self.old.setup)
             × (self.new.budgets ≡ self.old.budgets) }

@@ -1,12 +1,12 @@
 //! Laws of the definitions, each the contract of a function that does nothing.
 
 ghost use Rattle.std.specs.Prelude.{◌≡◌, Result};
-ghost use Rattle.gpu_vulkan.specs.Allocate.{Allocates};
+ghost use Rattle.gpu_vulkan.specs.Allocate.{AllocatorAllocates};
 ghost use Rattle.gpu_vulkan.specs.Blocks.{Slots};
 ghost use Rattle.gpu_core.specs.Blocks.{BlocksWellFormed};
 ghost use Rattle.gpu_core.specs.Budgets.{Budgets};
 ghost use Rattle.gpu_vulkan.specs.Budgets.{MeetsNoBudget, without_budgets};
-ghost use Rattle.gpu_vulkan.specs.Free.{Frees};
+ghost use Rattle.gpu_vulkan.specs.Free.{AllocatorFrees};
 ghost use Rattle.gpu_vulkan.specs.Untouched.{LeavesMemory};
 ghost use Rattle.gpu_vulkan.specs.declared.allocation.Allocation.{Allocation};
 ghost use Rattle.gpu_vulkan.specs.declared.describe.AllocationCreateDesc.{AllocationCreateDesc};
@@ -52,10 +52,10 @@ pub fn unasked_budgets_decide_nothing()
 pub fn memory_is_left<D: VulkanDevice>()
     ensures allocate { (setup : Setup) (budgets : Budgets) (d : AllocationCreateDesc)
         (old new : Slots) (device after : D) (result : Result Allocation AllocationError)
-        → Allocates D.VulkanDevice setup budgets d old device result new after
+        → AllocatorAllocates D.VulkanDevice setup budgets d old device result new after
         → LeavesMemory (D.held device) (D.held after) }
     ensures free { (a : Allocation) (old new : Slots) (device after : D)
         (result : Result (Unit {0}) (AllocationError × Allocation))
-        → Frees D.VulkanDevice a old device result new after
+        → AllocatorFrees D.VulkanDevice a old device result new after
         → LeavesMemory (D.held device) (D.held after) }
 {}

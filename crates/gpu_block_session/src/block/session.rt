@@ -55,13 +55,13 @@ impl Model for BlockSession {
 }
 
 impl Serve for BlockSession {
-    ghost use Rattle.gpu_block_session.specs.BlockSession.{Serves};
+    ghost use Rattle.gpu_block_session.specs.BlockSession.{SessionServes};
 
     type Command = Command;
 
     type Reply = Reply;
 
-    ghost serves = { Serves };
+    ghost serves = { SessionServes };
 
     /// The block is there, so it isn't made again: the reply is `Busy`.
     fn serve<L: Log>(&mut self, _log: &L, command: &Command) -> Reply {
@@ -88,7 +88,7 @@ impl BlockSession {
     ghost use Rattle.gpu_block_pieces.specs.Request.{request};
     ghost use Rattle.gpu_values.specs.declared.error.AllocationError.TheVariants.{HostOutOfMemory};
     ghost use Rattle.gpu_block_session.specs.BlockCommand.{type_of_kind};
-    ghost use Rattle.gpu_block_session.specs.BlockSession.{unused, Allocating, Freeing, Reporting, Serves};
+    ghost use Rattle.gpu_block_session.specs.BlockSession.{unused, Allocating, Freeing, Reporting, SessionServes};
     ghost use Rattle.gpu_block_session.specs.CommandList.{IsRun};
 
     /// A block of `size` bytes without pieces. The only refusal is `HostOutOfMemory`.
@@ -161,7 +161,7 @@ impl BlockSession {
         log: &L,
         commands: &[Command],
     ) -> gpu_values::Result<Vec<Reply>>
-        ensures run { IfOk result (λ replies. IsRun Serves commands.now replies.items self.old
+        ensures run { IfOk result (λ replies. IsRun SessionServes commands.now replies.items self.old
             self.new) }
         ensures count { IfOk result (λ replies. length replies.items ≡ length commands.now) }
         ensures nothing { OnErr result (self.new ≡ self.old) }

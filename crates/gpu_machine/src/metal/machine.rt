@@ -17,7 +17,7 @@ ghost use Rattle.gpu_pool.specs.Live.{IsLive, StayLive};
 ghost use Rattle.gpu_pool.specs.Move.{GivesPlace};
 ghost use Rattle.gpu_pool.specs.Told.{Reports};
 ghost use Rattle.gpu_machine.specs.MetalBegin.{IsQuestion, Begins, Grants, Refuses};
-ghost use Rattle.gpu_machine.specs.MetalCalls.{heap_back, block_heap, Frees};
+ghost use Rattle.gpu_machine.specs.MetalCalls.{heap_back, block_heap, MachineFrees};
 ghost use Rattle.gpu_machine.specs.MetalLive.{Gives, GivesAwaited};
 ghost use Rattle.gpu_machine.specs.MetalMove.{Proposes};
 
@@ -174,7 +174,7 @@ impl Machine {
     /// isn't the only shared one of its memory type. It takes no host memory. `Internal` where the piece isn't live, or a
     /// question is open.
     pub fn free(&mut self, index: usize, piece: &Piece<MTLHeap>) -> Result<Option<HeapBack>>
-        ensures frees { Frees self.old index piece.now result self.new }
+        ensures frees { MachineFrees self.old index piece.now result self.new }
         ensures keeps { (t : ℕ) (p : Piece MTLHeap) → IsLive is_same_heap self.old.requests.slots t p
             → AreDistinct t p index piece.now → IsLive is_same_heap self.new.requests.slots t p }
     {

@@ -7,7 +7,7 @@ ghost use Rattle.gpu_core.specs.declared.piece.Piece.{Piece};
 ghost use Rattle.gpu_device.specs.declared.vulkan.types.DeviceMemory.{DeviceMemory};
 ghost use Rattle.gpu_pool.specs.Idle.{RenamesIdle};
 ghost use Rattle.gpu_pool.specs.RequestState.{RequestState};
-ghost use Rattle.gpu_vulkan.specs.Allocate.{Allocates};
+ghost use Rattle.gpu_vulkan.specs.Allocate.{AllocatorAllocates};
 ghost use Rattle.gpu_vulkan.specs.Free as allocator_free;
 ghost use Rattle.gpu_vulkan.specs.Free.{GivesBack};
 ghost use Rattle.gpu_vulkan.specs.Live.{is_same_memory, piece_of};
@@ -15,7 +15,7 @@ ghost use Rattle.gpu_vulkan.specs.Rename as allocator_rename;
 ghost use Rattle.gpu_vulkan.specs.Rename.{IsNamed};
 ghost use Rattle.gpu_vulkan.specs.declared.allocation.Allocation.{Allocation};
 ghost use Rattle.gpu_vulkan.specs.declared.describe.AllocationCreateDesc.{AllocationCreateDesc};
-ghost use Rattle.gpu_machine.specs.VulkanCalls.{Frees, memory_in};
+ghost use Rattle.gpu_machine.specs.VulkanCalls.{MachineFrees, memory_in};
 ghost use Rattle.gpu_machine.specs.VulkanRun.{Allocated, Runs, Returns, State, most_questions};
 ghost use Rattle.gpu_machine.specs.VulkanState.{IsOver, AsksAsAllocator};
 ghost use Rattle.gpu_machine.specs.declared.vulkan.answer.MemoryBack.{MemoryBack};
@@ -32,7 +32,7 @@ pub fn runs_are_allocations<D: VulkanDevice>()
         → old.asking ≡ None
         → Runs D.VulkanDevice d questions old device told new after
         → Returns old.setup d told result
-        → Allocates D.VulkanDevice old.setup old.requests.budgets d old.requests.slots device result
+        → AllocatorAllocates D.VulkanDevice old.setup old.requests.budgets d old.requests.slots device result
         new.requests.slots after
         × (new ≡ record old {
           requests = record old.requests
@@ -54,15 +54,15 @@ pub fn frees_are_frees<D: VulkanDevice>()
     ensures freed { (old new : State) (a : Allocation) (p : Piece DeviceMemory)
         (back : Option (MemoryBack DeviceMemory)) (device after : D) → old.requests.awaited ≡ None
         → piece_of a ≡ Some p
-        → Frees is_same_memory old a.memory_type_index p (Ok back) new
+        → MachineFrees is_same_memory old a.memory_type_index p (Ok back) new
         → GivesBack D.VulkanDevice device (memory_in back) after
-        → allocator_free.Frees D.VulkanDevice a old.requests.slots device (Ok tt)
+        → allocator_free.AllocatorFrees D.VulkanDevice a old.requests.slots device (Ok tt)
         new.requests.slots after }
     ensures refused { (old new : State) (a : Allocation) (p : Piece DeviceMemory)
         (e f : AllocationError) (device : D) → old.requests.awaited ≡ None → piece_of a ≡ Some p
-        → Frees is_same_memory old a.memory_type_index p (Err e) new
+        → MachineFrees is_same_memory old a.memory_type_index p (Err e) new
         → refusal_of f ≡ refusal_of e
-        → allocator_free.Frees D.VulkanDevice a old.requests.slots device (Err (f, a))
+        → allocator_free.AllocatorFrees D.VulkanDevice a old.requests.slots device (Err (f, a))
         new.requests.slots device }
 {}
 

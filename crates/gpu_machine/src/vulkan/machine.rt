@@ -26,7 +26,7 @@ ghost use Rattle.gpu_machine.specs.VulkanAttempt.{Attempts, AttemptsSized, Place
 ghost use Rattle.gpu_machine.specs.VulkanBegin.{Tries, Follows, MakesAttempts, Begins, Grants, Declines, GoesOnFor, Shrinks};
 ghost use Rattle.gpu_machine.specs.VulkanByFlags.{AttemptsBy, BeginsDown, GoesDown};
 ghost use Rattle.gpu_machine.specs.VulkanDescription.{description_of, without, IsWellFormed};
-ghost use Rattle.gpu_machine.specs.VulkanCalls.{memory_back, live_block, block_at, Frees, SetsHeapLimit, SetsMostBlocks, SetsSmallerBlocks};
+ghost use Rattle.gpu_machine.specs.VulkanCalls.{memory_back, live_block, block_at, MachineFrees, SetsHeapLimit, SetsMostBlocks, SetsSmallerBlocks};
 ghost use Rattle.gpu_machine.specs.VulkanBound.{bound_at, BoundsBlocks};
 ghost use Rattle.gpu_machine.specs.VulkanHeapLimit.{limit_at};
 ghost use Rattle.gpu_machine.specs.VulkanLive.{Gives, GivesAgain, GivesAwaited};
@@ -314,7 +314,7 @@ impl<H: Copy + Eq> Machine<H> {
     /// isn't the only shared one of its memory type. It takes no host memory. `Internal` where the piece isn't live, or a question
     /// is open.
     pub fn free(&mut self, index: usize, piece: &Piece<H>) -> Result<Option<MemoryBack<H>>>
-        ensures frees { Frees H.eq self.old index piece.now result self.new }
+        ensures frees { MachineFrees H.eq self.old index piece.now result self.new }
         ensures keeps { (t : ℕ) (p : Piece H) → IsLive H.eq self.old.requests.slots t p
             → AreDistinct t p index piece.now → IsLive H.eq self.new.requests.slots t p }
     {
@@ -690,6 +690,7 @@ impl<H: Copy + Eq> Machine<H> {
     }
 
     // The attempts that begin at the memory type at `index`, up to the first question.
+    #[inline(always)]
     fn make_attempts(&mut self, desc: &AllocationCreateDesc, index: usize) -> Result<Progress<H>>
         requires idle { self.old.requests.awaited ≡ None }
         requires sized { 0 < desc.now.requirements.size }
@@ -725,6 +726,7 @@ impl<H: Copy + Eq> Machine<H> {
     }
 
     // A location's attempt at the memory type at `index`, up to its question.
+    #[inline(always)]
     fn attempt_for_location(
         &mut self,
         desc: &AllocationCreateDesc,
@@ -870,6 +872,7 @@ impl<H: Copy + Eq> Machine<H> {
     }
 
     // One attempt at the memory type at `index` by shared blocks of these sizes, up to its question, for which the rest of the request is kept.
+    #[inline(always)]
     fn attempt_sized(
         &mut self,
         desc: &AllocationCreateDesc,

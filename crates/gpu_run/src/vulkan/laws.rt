@@ -7,7 +7,7 @@ ghost use Rattle.gpu_vulkan.specs.Step.{id_of};
 ghost use Rattle.gpu_vulkan.specs.declared.allocation.Allocation.{Allocation};
 ghost use Rattle.gpu_run.specs.VulkanCommand.{Under, Write};
 ghost use Rattle.gpu_run.specs.VulkanReply.{SessionReply};
-ghost use Rattle.gpu_run.specs.VulkanSession.{SessionState, IsOwn, CommandEnvironment, Serves};
+ghost use Rattle.gpu_run.specs.VulkanSession.{SessionState, IsOwn, CommandEnvironment, SessionServes};
 ghost use Rattle.gpu_run.specs.VulkanLaws.{NonInterference};
 
 /// What others write changes nothing of ours. Take a set of the caller's numbers, ours, and two lists of commands that differ
@@ -24,7 +24,7 @@ pub fn two_runs()
 pub fn writes_are_apart()
     ensures { (setup : Setup) (key other at : ℕ) (bytes : List ℕ) (o : CommandEnvironment)
         (reply : SessionReply) (old new : SessionState) (b : Allocation) → IsOwn old
-        → Serves setup (Under key (Write at bytes)) o reply old new → key ≢ other
+        → SessionServes setup (Under key (Write at bytes)) o reply old new → key ≢ other
         → old.bound other ≡ Some b → IsLive old.model.slots b
         → new.model.byte_view.allocation_bytes (id_of b)
         ≡ old.model.byte_view.allocation_bytes (id_of b) }

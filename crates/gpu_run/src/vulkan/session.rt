@@ -9,7 +9,7 @@ ghost use Rattle.gpu_run.specs.VulkanCommand as commands;
 ghost use Rattle.gpu_run.specs.VulkanReply as replies;
 ghost use Rattle.gpu_run.specs.VulkanCommand.{Wanted, Describes, Alloc, Move, Null, Free, Rename, Write, Read, Under};
 ghost use Rattle.gpu_run.specs.VulkanSession.{IsOwn, SessionInvariant, overwritten};
-ghost use Rattle.gpu_run.specs.VulkanServed.{session_of, command_of, reply_of, shown_allocation, IsServed, IsRun, ServesEach};
+ghost use Rattle.gpu_run.specs.VulkanServed.{session_of, command_of, reply_of, shown_allocation, IsCommandServed, IsRun, ServesEach};
 
 use crate::vulkan::command::describe;
 use crate::vulkan::{Allocated, Command, Reply};
@@ -140,7 +140,7 @@ impl<D: VulkanDevice> Session<D> {
     /// Serves one command. For lack of memory it answers `Error(HostOutOfMemory)`, and then the command changed nothing but
     /// what the device counts of questions that it was asked before.
     pub fn serve<L: Log>(&mut self, log: &L, command: &Command) -> Reply
-        ensures { IsServed D.VulkanDevice (command_of command.now) (reply_of result) self.old
+        ensures { IsCommandServed D.VulkanDevice (command_of command.now) (reply_of result) self.old
             self.new }
     {
         match command {
@@ -164,7 +164,7 @@ impl<D: VulkanDevice> Session<D> {
     /// Room for the number is made before the allocator is asked.
     fn allocate<L: Log>(&mut self, log: &L, key: u64, desc: &AllocationCreateDesc) -> Reply
         ensures { (w : Wanted) → Describes desc.now w
-            → IsServed D.VulkanDevice (Under key (Alloc w)) (reply_of result) self.old self.new }
+            → IsCommandServed D.VulkanDevice (Under key (Alloc w)) (reply_of result) self.old self.new }
     {
         if self.bound.contains_key(&key) {
             return Reply::Busy;
@@ -185,7 +185,7 @@ impl<D: VulkanDevice> Session<D> {
     /// Room for the second number is made before the allocator is asked.
     fn propose_move(&mut self, key: u64, to: u64, desc: &AllocationCreateDesc) -> Reply
         ensures { (w : Wanted) → Describes desc.now w
-            → IsServed D.VulkanDevice (Under key (Move to w)) (reply_of result) self.old self.new }
+            → IsCommandServed D.VulkanDevice (Under key (Move to w)) (reply_of result) self.old self.new }
     {
         if !self.bound.contains_key(&key) {
             return Reply::Unbound;
@@ -211,7 +211,7 @@ impl<D: VulkanDevice> Session<D> {
     }
 
     fn bind_null(&mut self, key: u64) -> Reply
-        ensures { IsServed D.VulkanDevice (Under key Null) (reply_of result) self.old self.new }
+        ensures { IsCommandServed D.VulkanDevice (Under key Null) (reply_of result) self.old self.new }
     {
         if self.bound.contains_key(&key) {
             return Reply::Busy;
@@ -224,7 +224,7 @@ impl<D: VulkanDevice> Session<D> {
     }
 
     fn free<L: Log>(&mut self, log: &L, key: u64) -> Reply
-        ensures { IsServed D.VulkanDevice (Under key Free) (reply_of result) self.old self.new }
+        ensures { IsCommandServed D.VulkanDevice (Under key Free) (reply_of result) self.old self.new }
     {
         match self.bound.remove(&key) {
             None => Reply::Unbound,
@@ -236,7 +236,7 @@ impl<D: VulkanDevice> Session<D> {
     }
 
     fn rename(&mut self, key: u64, name: &str) -> Reply
-        ensures { IsServed D.VulkanDevice (Under key (Rename name.now)) (reply_of result) self.old
+        ensures { IsCommandServed D.VulkanDevice (Under key (Rename name.now)) (reply_of result) self.old
             self.new }
     {
         match self.bound.get_mut(&key) {
@@ -249,7 +249,7 @@ impl<D: VulkanDevice> Session<D> {
     }
 
     fn write(&mut self, key: u64, at: u64, bytes: &[u8]) -> Reply
-        ensures { IsServed D.VulkanDevice (Under key (Write at bytes.now)) (reply_of result)
+        ensures { IsCommandServed D.VulkanDevice (Under key (Write at bytes.now)) (reply_of result)
             self.old self.new }
     {
         let Some(allocation) = self.bound.get(&key) else {
@@ -266,7 +266,7 @@ impl<D: VulkanDevice> Session<D> {
     }
 
     fn read(&mut self, key: u64, at: u64, size: u64) -> Reply
-        ensures { IsServed D.VulkanDevice (Under key (Read at size)) (reply_of result) self.old
+        ensures { IsCommandServed D.VulkanDevice (Under key (Read at size)) (reply_of result) self.old
             self.new }
     {
         let Some(allocation) = self.bound.get(&key) else {
@@ -286,7 +286,7 @@ impl<D: VulkanDevice> Session<D> {
     }
 
     fn set_budget(&mut self, memory_type: u64, budget: Option<u64>) -> Reply
-        ensures { IsServed D.VulkanDevice (commands.SetBudget memory_type budget) (reply_of result)
+        ensures { IsCommandServed D.VulkanDevice (commands.SetBudget memory_type budget) (reply_of result)
             self.old self.new }
     {
         match self.allocator.set_budget(memory_type as usize, budget) {
@@ -296,7 +296,7 @@ impl<D: VulkanDevice> Session<D> {
     }
 
     fn report(&self) -> Reply
-        ensures { IsServed D.VulkanDevice commands.Report (reply_of result) self.now self.now }
+        ensures { IsCommandServed D.VulkanDevice commands.Report (reply_of result) self.now self.now }
     {
         match self.allocator.generate_report() {
             Ok(report) => Reply::Report(report),
@@ -305,7 +305,7 @@ impl<D: VulkanDevice> Session<D> {
     }
 
     fn leaks(&self) -> Reply
-        ensures { IsServed D.VulkanDevice commands.Leaks (reply_of result) self.now self.now }
+        ensures { IsCommandServed D.VulkanDevice commands.Leaks (reply_of result) self.now self.now }
     {
         match self.allocator.leak_texts() {
             Ok(texts) => Reply::Leaks(texts),

@@ -2,7 +2,7 @@
 
 ghost use Rattle.std.specs.Prelude.{◌≡◌, ◌∷◌, IfOk, codes};
 ghost use Rattle.gpu_block_session.specs.Words.{texts};
-ghost use Rattle.gpu_trace_text.specs.D3D12Command.{request_words, words, Fits, FitsRequest};
+ghost use Rattle.gpu_trace_text.specs.D3D12Command.{request_words, words, CommandFits, FitsRequest};
 ghost use Rattle.gpu_trace_text.specs.Spelled.{Says};
 
 use crate::d3d12::resource::{category_of, wanted_of};
@@ -43,7 +43,7 @@ fn request_of(alloc: Global, arguments: &[&str]) -> Result<Option<Request>, Allo
 }
 
 fn alloc(alloc: Global, arguments: &[&str]) -> Result<Option<Command>, AllocError>
-    ensures { IfOk result (λ found. Says words Fits (codes "alloc" ∷ texts arguments.now) found) }
+    ensures { IfOk result (λ found. Says words CommandFits (codes "alloc" ∷ texts arguments.now) found) }
 {
     let [key, rest @ ..] = arguments else {
         return Ok(None);
@@ -58,7 +58,7 @@ fn alloc(alloc: Global, arguments: &[&str]) -> Result<Option<Command>, AllocErro
 }
 
 fn second_place(alloc: Global, arguments: &[&str]) -> Result<Option<Command>, AllocError>
-    ensures { IfOk result (λ found. Says words Fits (codes "move" ∷ texts arguments.now) found) }
+    ensures { IfOk result (λ found. Says words CommandFits (codes "move" ∷ texts arguments.now) found) }
 {
     let [key, to, rest @ ..] = arguments else {
         return Ok(None);
@@ -76,7 +76,7 @@ fn second_place(alloc: Global, arguments: &[&str]) -> Result<Option<Command>, Al
 }
 
 fn free(arguments: &[&str]) -> Option<Command>
-    ensures { Says words Fits (codes "free" ∷ texts arguments.now) result }
+    ensures { Says words CommandFits (codes "free" ∷ texts arguments.now) result }
 {
     let [key] = arguments else {
         return None;
@@ -86,7 +86,7 @@ fn free(arguments: &[&str]) -> Option<Command>
 }
 
 fn rename(alloc: Global, arguments: &[&str]) -> Result<Option<Command>, AllocError>
-    ensures { IfOk result (λ found. Says words Fits (codes "rename" ∷ texts arguments.now) found) }
+    ensures { IfOk result (λ found. Says words CommandFits (codes "rename" ∷ texts arguments.now) found) }
 {
     let [key, name] = arguments else {
         return Ok(None);
@@ -101,7 +101,7 @@ fn rename(alloc: Global, arguments: &[&str]) -> Result<Option<Command>, AllocErr
 }
 
 fn create(alloc: Global, arguments: &[&str]) -> Result<Option<Command>, AllocError>
-    ensures { IfOk result (λ found. Says words Fits (codes "create" ∷ texts arguments.now) found) }
+    ensures { IfOk result (λ found. Says words CommandFits (codes "create" ∷ texts arguments.now) found) }
 {
     let [key, rest @ ..] = arguments else {
         return Ok(None);
@@ -116,7 +116,7 @@ fn create(alloc: Global, arguments: &[&str]) -> Result<Option<Command>, AllocErr
 }
 
 fn release(arguments: &[&str]) -> Option<Command>
-    ensures { Says words Fits (codes "release" ∷ texts arguments.now) result }
+    ensures { Says words CommandFits (codes "release" ∷ texts arguments.now) result }
 {
     let [key] = arguments else {
         return None;
@@ -126,7 +126,7 @@ fn release(arguments: &[&str]) -> Option<Command>
 }
 
 fn leaks(arguments: &[&str]) -> Option<Command>
-    ensures { Says words Fits (codes "leaks" ∷ texts arguments.now) result }
+    ensures { Says words CommandFits (codes "leaks" ∷ texts arguments.now) result }
 {
     let [] = arguments else {
         return None;
@@ -135,7 +135,7 @@ fn leaks(arguments: &[&str]) -> Option<Command>
 }
 
 fn report(arguments: &[&str]) -> Option<Command>
-    ensures { Says words Fits (codes "report" ∷ texts arguments.now) result }
+    ensures { Says words CommandFits (codes "report" ∷ texts arguments.now) result }
 {
     let [] = arguments else {
         return None;
@@ -144,7 +144,7 @@ fn report(arguments: &[&str]) -> Option<Command>
 }
 
 fn capacity(arguments: &[&str]) -> Option<Command>
-    ensures { Says words Fits (codes "capacity" ∷ texts arguments.now) result }
+    ensures { Says words CommandFits (codes "capacity" ∷ texts arguments.now) result }
 {
     let [] = arguments else {
         return None;
@@ -153,7 +153,7 @@ fn capacity(arguments: &[&str]) -> Option<Command>
 }
 
 fn committed(arguments: &[&str]) -> Option<Command>
-    ensures { Says words Fits (codes "committed" ∷ texts arguments.now) result }
+    ensures { Says words CommandFits (codes "committed" ∷ texts arguments.now) result }
 {
     let [memory_type] = arguments else {
         return None;
@@ -163,7 +163,7 @@ fn committed(arguments: &[&str]) -> Option<Command>
 }
 
 fn budget(arguments: &[&str]) -> Option<Command>
-    ensures { Says words Fits (codes "budget" ∷ texts arguments.now) result }
+    ensures { Says words CommandFits (codes "budget" ∷ texts arguments.now) result }
 {
     let [memory_type, budget] = arguments else {
         return None;
@@ -182,7 +182,7 @@ pub(crate) fn said_command(
     verb: &str,
     arguments: &[&str],
 ) -> Result<Option<Command>, AllocError>
-    ensures { IfOk result (λ found. Says words Fits (verb.now ∷ texts arguments.now) found) }
+    ensures { IfOk result (λ found. Says words CommandFits (verb.now ∷ texts arguments.now) found) }
 {
     match verb {
         "alloc" => alloc(global, arguments),

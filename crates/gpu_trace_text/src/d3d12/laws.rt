@@ -21,7 +21,7 @@ ghost use Rattle.gpu_trace_text.specs.Ask.{FitsBudget};
 ghost use Rattle.gpu_trace_text.specs.Captured.{BeginsWith};
 ghost use Rattle.gpu_trace_text.specs.D3D12Captured.{FitsCaptured, IsAlloc, IsMove, IsRename};
 ghost use Rattle.gpu_trace_text.specs.D3D12Line.{Means};
-ghost use Rattle.gpu_trace_text.specs.D3D12Setting.{words as setting_words, Fits as FitsSetting};
+ghost use Rattle.gpu_trace_text.specs.D3D12Setting.{words as setting_words, SettingFits as FitsSetting};
 ghost use Rattle.gpu_trace_text.specs.declared.d3d12.setting.Setting.{Setting};
 ghost use Rattle.gpu_trace_text.specs.declared.dialect.Line.TheVariants as lines;
 ghost use Rattle.gpu_trace_text.specs.Any.{d3d12_line};

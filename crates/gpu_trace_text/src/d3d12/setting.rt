@@ -2,7 +2,7 @@
 
 ghost use Rattle.std.specs.Prelude.{◌≡◌, ◌≢◌, [], ◌∷◌, IfOk, MatchOption, codes};
 ghost use Rattle.gpu_block_session.specs.Words.{texts};
-ghost use Rattle.gpu_trace_text.specs.D3D12Setting.{version_word, words, Fits};
+ghost use Rattle.gpu_trace_text.specs.D3D12Setting.{version_word, words, SettingFits};
 ghost use Rattle.gpu_trace_text.specs.Spelled.{Says};
 ghost use Rattle.gpu_trace_text.specs.declared.d3d12.setting.Version.{Version};
 
@@ -35,7 +35,7 @@ pub enum Setting {
 }
 
 fn told_tier(word: &str) -> Option<Setting>
-    ensures { Says words Fits (codes "tier" ∷ word.now ∷ []) result }
+    ensures { Says words SettingFits (codes "tier" ∷ word.now ∷ []) result }
 {
     match word {
         "1" => Some(Setting::Tier(Ok(ResourceHeapTier::Tier1))),
@@ -45,7 +45,7 @@ fn told_tier(word: &str) -> Option<Setting>
 }
 
 fn refused_tier(alloc: Global, word: &str, number: &str) -> Result<Option<Setting>, AllocError>
-    ensures { IfOk result (λ found. Says words Fits
+    ensures { IfOk result (λ found. Says words SettingFits
         (codes "tier" ∷ word.now ∷ number.now ∷ []) found) }
 {
     if word != "refused" {
@@ -58,7 +58,7 @@ fn refused_tier(alloc: Global, word: &str, number: &str) -> Result<Option<Settin
 }
 
 fn tier(alloc: Global, arguments: &[&str]) -> Result<Option<Setting>, AllocError>
-    ensures { IfOk result (λ found. Says words Fits (codes "tier" ∷ texts arguments.now) found) }
+    ensures { IfOk result (λ found. Says words SettingFits (codes "tier" ∷ texts arguments.now) found) }
 {
     match arguments {
         [word] => Ok(told_tier(word)),
@@ -80,7 +80,7 @@ fn version_of(word: &str) -> Option<Version>
 }
 
 fn newest(arguments: &[&str]) -> Option<Setting>
-    ensures { Says words Fits (codes "version" ∷ texts arguments.now) result }
+    ensures { Says words SettingFits (codes "version" ∷ texts arguments.now) result }
 {
     let [word] = arguments else {
         return None;
@@ -95,7 +95,7 @@ pub(crate) fn said_setting(
     verb: &str,
     arguments: &[&str],
 ) -> Result<Option<Setting>, AllocError>
-    ensures { IfOk result (λ found. Says words Fits (verb.now ∷ texts arguments.now) found) }
+    ensures { IfOk result (λ found. Says words SettingFits (verb.now ∷ texts arguments.now) found) }
 {
     match verb {
         "tier" => tier(alloc, arguments),

@@ -8,7 +8,7 @@ ghost use Rattle.gpu_trace_text.specs.Hex.{hex, AreBytes};
 ghost use Rattle.gpu_block_session.specs.Words.{texts};
 ghost use Rattle.gpu_capture.specs.Words.{location_word, budget_word};
 ghost use Rattle.gpu_capture.specs.Vulkan.{linear_word, scheme_word};
-ghost use Rattle.gpu_trace_text.specs.Ask.{request_words, words, Fits, FitsBudget, FitsRequest, FitsScheme, IsLength, IsPayload};
+ghost use Rattle.gpu_trace_text.specs.Ask.{request_words, words, CommandFits, FitsBudget, FitsRequest, FitsScheme, IsLength, IsPayload};
 ghost use Rattle.gpu_trace_text.specs.Spelled.{Says};
 
 use crate::hex;
@@ -124,7 +124,7 @@ fn request_of(alloc: Global, arguments: &[&str]) -> Result<Option<Request>, Allo
 }
 
 fn alloc(alloc: Global, arguments: &[&str]) -> Result<Option<Command>, AllocError>
-    ensures { IfOk result (λ found. Says words Fits (codes "alloc" ∷ texts arguments.now) found) }
+    ensures { IfOk result (λ found. Says words CommandFits (codes "alloc" ∷ texts arguments.now) found) }
 {
     let [key, rest @ ..] = arguments else {
         return Ok(None);
@@ -139,7 +139,7 @@ fn alloc(alloc: Global, arguments: &[&str]) -> Result<Option<Command>, AllocErro
 }
 
 fn second_place(alloc: Global, arguments: &[&str]) -> Result<Option<Command>, AllocError>
-    ensures { IfOk result (λ found. Says words Fits (codes "move" ∷ texts arguments.now) found) }
+    ensures { IfOk result (λ found. Says words CommandFits (codes "move" ∷ texts arguments.now) found) }
 {
     let [key, to, rest @ ..] = arguments else {
         return Ok(None);
@@ -157,7 +157,7 @@ fn second_place(alloc: Global, arguments: &[&str]) -> Result<Option<Command>, Al
 }
 
 fn null(arguments: &[&str]) -> Option<Command>
-    ensures { Says words Fits (codes "null" ∷ texts arguments.now) result }
+    ensures { Says words CommandFits (codes "null" ∷ texts arguments.now) result }
 {
     let [key] = arguments else {
         return None;
@@ -167,7 +167,7 @@ fn null(arguments: &[&str]) -> Option<Command>
 }
 
 fn free(arguments: &[&str]) -> Option<Command>
-    ensures { Says words Fits (codes "free" ∷ texts arguments.now) result }
+    ensures { Says words CommandFits (codes "free" ∷ texts arguments.now) result }
 {
     let [key] = arguments else {
         return None;
@@ -177,7 +177,7 @@ fn free(arguments: &[&str]) -> Option<Command>
 }
 
 fn rename(alloc: Global, arguments: &[&str]) -> Result<Option<Command>, AllocError>
-    ensures { IfOk result (λ found. Says words Fits (codes "rename" ∷ texts arguments.now) found) }
+    ensures { IfOk result (λ found. Says words CommandFits (codes "rename" ∷ texts arguments.now) found) }
 {
     let [key, name] = arguments else {
         return Ok(None);
@@ -222,7 +222,7 @@ fn payload(alloc: Global, word: &str) -> Result<Option<Vec<u8>>, AllocError>
 }
 
 fn write(alloc: Global, arguments: &[&str]) -> Result<Option<Command>, AllocError>
-    ensures { IfOk result (λ found. Says words Fits (codes "write" ∷ texts arguments.now) found) }
+    ensures { IfOk result (λ found. Says words CommandFits (codes "write" ∷ texts arguments.now) found) }
 {
     let [key, at, digits] = arguments else {
         return Ok(None);
@@ -248,7 +248,7 @@ fn size_of(word: &str) -> Option<u64>
 }
 
 fn read(arguments: &[&str]) -> Option<Command>
-    ensures { Says words Fits (codes "read" ∷ texts arguments.now) result }
+    ensures { Says words CommandFits (codes "read" ∷ texts arguments.now) result }
 {
     let [key, at, size] = arguments else {
         return None;
@@ -260,7 +260,7 @@ fn read(arguments: &[&str]) -> Option<Command>
 }
 
 fn leaks(arguments: &[&str]) -> Option<Command>
-    ensures { Says words Fits (codes "leaks" ∷ texts arguments.now) result }
+    ensures { Says words CommandFits (codes "leaks" ∷ texts arguments.now) result }
 {
     let [] = arguments else {
         return None;
@@ -269,7 +269,7 @@ fn leaks(arguments: &[&str]) -> Option<Command>
 }
 
 fn capacity(arguments: &[&str]) -> Option<Command>
-    ensures { Says words Fits (codes "capacity" ∷ texts arguments.now) result }
+    ensures { Says words CommandFits (codes "capacity" ∷ texts arguments.now) result }
 {
     let [] = arguments else {
         return None;
@@ -290,7 +290,7 @@ pub fn budget_of(word: &str) -> Option<Option<u64>>
 }
 
 fn budget(arguments: &[&str]) -> Option<Command>
-    ensures { Says words Fits (codes "budget" ∷ texts arguments.now) result }
+    ensures { Says words CommandFits (codes "budget" ∷ texts arguments.now) result }
 {
     let [memory_type, budget] = arguments else {
         return None;
@@ -309,7 +309,7 @@ pub fn command_of(
     verb: &str,
     arguments: &[&str],
 ) -> Result<Option<Command>, AllocError>
-    ensures { IfOk result (λ found. Says words Fits (verb.now ∷ texts arguments.now) found) }
+    ensures { IfOk result (λ found. Says words CommandFits (verb.now ∷ texts arguments.now) found) }
 {
     match verb {
         "alloc" => alloc(global, arguments),

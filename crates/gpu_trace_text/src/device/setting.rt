@@ -5,7 +5,7 @@ ghost use Rattle.std.specs.Fmt.{decimal};
 ghost use Rattle.gpu_device.specs.declared.refusal.Refusal.{Refusal};
 ghost use Rattle.gpu_block_session.specs.Words.{texts};
 ghost use Rattle.gpu_capture.specs.Words.{refusal_word};
-ghost use Rattle.gpu_trace_text.specs.Setting.{words, Fits, FitsRefusal, FitsShared, sizes_of};
+ghost use Rattle.gpu_trace_text.specs.Setting.{words, SettingFits, FitsRefusal, FitsShared, sizes_of};
 ghost use Rattle.gpu_trace_text.specs.Spelled.{Says};
 
 use gpu_block_session::words::{code, number, small_number};
@@ -44,7 +44,7 @@ pub enum Setting {
 }
 
 fn heap(arguments: &[&str]) -> Option<Setting>
-    ensures { Says words Fits (codes "heap" ∷ texts arguments.now) result }
+    ensures { Says words SettingFits (codes "heap" ∷ texts arguments.now) result }
 {
     let [size] = arguments else {
         return None;
@@ -54,7 +54,7 @@ fn heap(arguments: &[&str]) -> Option<Setting>
 }
 
 fn memory_type(arguments: &[&str]) -> Option<Setting>
-    ensures { Says words Fits (codes "type" ∷ texts arguments.now) result }
+    ensures { Says words SettingFits (codes "type" ∷ texts arguments.now) result }
 {
     let [flags, heap] = arguments else {
         return None;
@@ -65,7 +65,7 @@ fn memory_type(arguments: &[&str]) -> Option<Setting>
 }
 
 fn granularity(arguments: &[&str]) -> Option<Setting>
-    ensures { Says words Fits (codes "granularity" ∷ texts arguments.now) result }
+    ensures { Says words SettingFits (codes "granularity" ∷ texts arguments.now) result }
 {
     let [bytes] = arguments else {
         return None;
@@ -75,7 +75,7 @@ fn granularity(arguments: &[&str]) -> Option<Setting>
 }
 
 fn sizes(arguments: &[&str]) -> Option<Setting>
-    ensures { Says words Fits (codes "sizes" ∷ texts arguments.now) result }
+    ensures { Says words SettingFits (codes "sizes" ∷ texts arguments.now) result }
 {
     let [device, host, max_device, max_host] = arguments else {
         return None;
@@ -118,7 +118,7 @@ fn question_of(word: &str) -> Option<u64>
 }
 
 fn refuse(alloc: Global, arguments: &[&str]) -> Result<Option<Setting>, AllocError>
-    ensures { IfOk result (λ found. Says words Fits (codes "refuse" ∷ texts arguments.now) found) }
+    ensures { IfOk result (λ found. Says words SettingFits (codes "refuse" ∷ texts arguments.now) found) }
 {
     let [question, refusal] = arguments else {
         return Ok(None);
@@ -154,7 +154,7 @@ pub fn setting_of(
     verb: &str,
     arguments: &[&str],
 ) -> Result<Option<Setting>, AllocError>
-    ensures { IfOk result (λ found. Says words Fits (verb.now ∷ texts arguments.now) found) }
+    ensures { IfOk result (λ found. Says words SettingFits (verb.now ∷ texts arguments.now) found) }
 {
     match verb {
         "heap" => Ok(heap(arguments)),

@@ -6,7 +6,7 @@ ghost use Rattle.gpu_values.specs.declared.memory_location.MemoryLocation.{Memor
 ghost use Rattle.gpu_device.specs.declared.metal.types.StorageMode.{StorageMode};
 ghost use Rattle.gpu_capture.specs.Words.{location_word};
 ghost use Rattle.gpu_block_session.specs.Words.{texts};
-ghost use Rattle.gpu_trace_text.specs.MetalCommand.{mode_word, request_words, words, Fits, FitsMode, FitsRequest};
+ghost use Rattle.gpu_trace_text.specs.MetalCommand.{mode_word, request_words, words, CommandFits, FitsMode, FitsRequest};
 ghost use Rattle.gpu_trace_text.specs.Spelled.{Says};
 
 use crate::device::ask::{budget_of, location_of};
@@ -60,7 +60,7 @@ fn request_of(alloc: Global, arguments: &[&str]) -> Result<Option<Request>, Allo
 }
 
 fn alloc(alloc: Global, arguments: &[&str]) -> Result<Option<Command>, AllocError>
-    ensures { IfOk result (λ found. Says words Fits (codes "alloc" ∷ texts arguments.now) found) }
+    ensures { IfOk result (λ found. Says words CommandFits (codes "alloc" ∷ texts arguments.now) found) }
 {
     let [key, rest @ ..] = arguments else {
         return Ok(None);
@@ -75,7 +75,7 @@ fn alloc(alloc: Global, arguments: &[&str]) -> Result<Option<Command>, AllocErro
 }
 
 fn second_place(alloc: Global, arguments: &[&str]) -> Result<Option<Command>, AllocError>
-    ensures { IfOk result (λ found. Says words Fits (codes "move" ∷ texts arguments.now) found) }
+    ensures { IfOk result (λ found. Says words CommandFits (codes "move" ∷ texts arguments.now) found) }
 {
     let [key, to, rest @ ..] = arguments else {
         return Ok(None);
@@ -93,7 +93,7 @@ fn second_place(alloc: Global, arguments: &[&str]) -> Result<Option<Command>, Al
 }
 
 fn buffer(alloc: Global, arguments: &[&str]) -> Result<Option<Command>, AllocError>
-    ensures { IfOk result (λ found. Says words Fits (codes "buffer" ∷ texts arguments.now) found) }
+    ensures { IfOk result (λ found. Says words CommandFits (codes "buffer" ∷ texts arguments.now) found) }
 {
     let [key, length, location, name] = arguments else {
         return Ok(None);
@@ -119,7 +119,7 @@ fn buffer(alloc: Global, arguments: &[&str]) -> Result<Option<Command>, AllocErr
 }
 
 fn structure(alloc: Global, arguments: &[&str]) -> Result<Option<Command>, AllocError>
-    ensures { IfOk result (λ found. Says words Fits
+    ensures { IfOk result (λ found. Says words CommandFits
         (codes "structure" ∷ texts arguments.now) found) }
 {
     let [key, size, location, name] = arguments else {
@@ -167,7 +167,7 @@ fn texture_of(mode: &str, width: &str, height: &str, bytes: &str) -> Option<Text
 }
 
 fn texture(alloc: Global, arguments: &[&str]) -> Result<Option<Command>, AllocError>
-    ensures { IfOk result (λ found. Says words Fits (codes "texture" ∷ texts arguments.now) found) }
+    ensures { IfOk result (λ found. Says words CommandFits (codes "texture" ∷ texts arguments.now) found) }
 {
     let [key, mode, width, height, bytes, name] = arguments else {
         return Ok(None);
@@ -185,7 +185,7 @@ fn texture(alloc: Global, arguments: &[&str]) -> Result<Option<Command>, AllocEr
 }
 
 fn free(arguments: &[&str]) -> Option<Command>
-    ensures { Says words Fits (codes "free" ∷ texts arguments.now) result }
+    ensures { Says words CommandFits (codes "free" ∷ texts arguments.now) result }
 {
     let [key] = arguments else {
         return None;
@@ -195,7 +195,7 @@ fn free(arguments: &[&str]) -> Option<Command>
 }
 
 fn budget(arguments: &[&str]) -> Option<Command>
-    ensures { Says words Fits (codes "budget" ∷ texts arguments.now) result }
+    ensures { Says words CommandFits (codes "budget" ∷ texts arguments.now) result }
 {
     let [memory_type, budget] = arguments else {
         return None;
@@ -209,7 +209,7 @@ fn budget(arguments: &[&str]) -> Option<Command>
 }
 
 fn heaps(arguments: &[&str]) -> Option<Command>
-    ensures { Says words Fits (codes "heaps" ∷ texts arguments.now) result }
+    ensures { Says words CommandFits (codes "heaps" ∷ texts arguments.now) result }
 {
     let [] = arguments else {
         return None;
@@ -218,7 +218,7 @@ fn heaps(arguments: &[&str]) -> Option<Command>
 }
 
 fn commit(arguments: &[&str]) -> Option<Command>
-    ensures { Says words Fits (codes "commit" ∷ texts arguments.now) result }
+    ensures { Says words CommandFits (codes "commit" ∷ texts arguments.now) result }
 {
     let [] = arguments else {
         return None;
@@ -227,7 +227,7 @@ fn commit(arguments: &[&str]) -> Option<Command>
 }
 
 fn report(arguments: &[&str]) -> Option<Command>
-    ensures { Says words Fits (codes "report" ∷ texts arguments.now) result }
+    ensures { Says words CommandFits (codes "report" ∷ texts arguments.now) result }
 {
     let [] = arguments else {
         return None;
@@ -236,7 +236,7 @@ fn report(arguments: &[&str]) -> Option<Command>
 }
 
 fn capacity(arguments: &[&str]) -> Option<Command>
-    ensures { Says words Fits (codes "capacity" ∷ texts arguments.now) result }
+    ensures { Says words CommandFits (codes "capacity" ∷ texts arguments.now) result }
 {
     let [] = arguments else {
         return None;
@@ -250,7 +250,7 @@ pub(crate) fn said_command(
     verb: &str,
     arguments: &[&str],
 ) -> Result<Option<Command>, AllocError>
-    ensures { IfOk result (λ found. Says words Fits (verb.now ∷ texts arguments.now) found) }
+    ensures { IfOk result (λ found. Says words CommandFits (verb.now ∷ texts arguments.now) found) }
 {
     match verb {
         "alloc" => alloc(global, arguments),

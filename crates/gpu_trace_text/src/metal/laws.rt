@@ -18,7 +18,7 @@ ghost use Rattle.gpu_trace_text.specs.Ask.{FitsBudget};
 ghost use Rattle.gpu_trace_text.specs.Captured.{BeginsWith};
 ghost use Rattle.gpu_trace_text.specs.MetalCaptured.{FitsCaptured, IsAlloc, IsMove};
 ghost use Rattle.gpu_trace_text.specs.MetalLine.{Means};
-ghost use Rattle.gpu_trace_text.specs.MetalSetting.{words as setting_words, Fits as FitsSetting};
+ghost use Rattle.gpu_trace_text.specs.MetalSetting.{words as setting_words, SettingFits as FitsSetting};
 ghost use Rattle.gpu_trace_text.specs.declared.metal.setting.Setting.{Setting};
 ghost use Rattle.gpu_trace_text.specs.declared.dialect.Line.TheVariants as lines;
 ghost use Rattle.gpu_trace_text.specs.Any.{metal_line};

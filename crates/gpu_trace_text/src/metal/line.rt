@@ -34,9 +34,9 @@ impl Dialect for Stage {
 
     type Other = Look;
 
-    ghost is_setting = { Spells setting.words setting.Fits };
+    ghost is_setting = { Spells setting.words setting.SettingFits };
 
-    ghost is_command = { Spells command.words command.Fits };
+    ghost is_command = { Spells command.words command.CommandFits };
 
     ghost is_other = { IsLook };
 

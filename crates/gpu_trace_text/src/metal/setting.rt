@@ -3,7 +3,7 @@
 ghost use Rattle.std.specs.Prelude.{◌≡◌, ◌≢◌, ◌∷◌, Bool, IfOk, MatchOption, codes};
 ghost use Rattle.gpu_block_session.specs.Words.{texts};
 ghost use Rattle.gpu_capture.specs.Metal.{yes_word};
-ghost use Rattle.gpu_trace_text.specs.MetalSetting.{words, Fits};
+ghost use Rattle.gpu_trace_text.specs.MetalSetting.{words, SettingFits};
 ghost use Rattle.gpu_trace_text.specs.Spelled.{Says};
 
 use crate::device::setting;
@@ -32,7 +32,7 @@ fn is_yes(word: &str) -> Option<bool>
 }
 
 fn sets(arguments: &[&str]) -> Option<Setting>
-    ensures { Says words Fits (codes "sets" ∷ texts arguments.now) result }
+    ensures { Says words SettingFits (codes "sets" ∷ texts arguments.now) result }
 {
     let [word] = arguments else {
         return None;
@@ -42,7 +42,7 @@ fn sets(arguments: &[&str]) -> Option<Setting>
 }
 
 fn residency(arguments: &[&str]) -> Option<Setting>
-    ensures { Says words Fits (codes "residency" ∷ texts arguments.now) result }
+    ensures { Says words SettingFits (codes "residency" ∷ texts arguments.now) result }
 {
     let [word] = arguments else {
         return None;
@@ -57,7 +57,7 @@ pub(crate) fn said_setting(
     verb: &str,
     arguments: &[&str],
 ) -> Result<Option<Setting>, AllocError>
-    ensures { IfOk result (λ found. Says words Fits (verb.now ∷ texts arguments.now) found) }
+    ensures { IfOk result (λ found. Says words SettingFits (verb.now ∷ texts arguments.now) found) }
 {
     match verb {
         "sets" => Ok(sets(arguments)),

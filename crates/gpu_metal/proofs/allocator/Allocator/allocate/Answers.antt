@@ -1,6 +1,6 @@
 use Rattle.std.specs.Prelude.{IfOk}
 use Rattle.std.proofs.Common.{rules, ◌≡◌, refl, sym, subst, true, false}
-use Rattle.gpu_metal.specs.Allocate.{is_valid, AllocatesBy, Allocates}
+use Rattle.gpu_metal.specs.Allocate.{is_valid, AllocatesBy, AllocatorAllocates}
 use Rattle.gpu_pool.specs.Allocation.{IsNewlyLive}
 use Rattle.gpu_metal.specs.Live.{IsLive}
 use Rattle.gpu_metal.specs.Blocks.{is_same_heap}
@@ -22,7 +22,7 @@ returns-then-desc-eq0-clause-step g c =
 abbrev now : (g : _) (c : After-allocate_named g) → State g.row.D.Denot
 now g c = state_of c.allocate_named.new.self c.self.inside.debug
 
-allocates : (g : _) (c : After-allocate_named g) → Allocates g.D.MetalDevice c.args.desc.now c.args.self.now c.allocate_named.result (now g c)
+allocates : (g : _) (c : After-allocate_named g) → AllocatorAllocates g.D.MetalDevice c.args.desc.now c.args.self.now c.allocate_named.result (now g c)
 allocates g c =
     let V = g.D.MetalDevice in
     let i = c.self.inside in
@@ -30,9 +30,9 @@ allocates g c =
     let valid : is_valid d ≡ true = search rules in
     let tried = attempted V d c.type_for-index.result c.type_for-index.ensures.first i.pool c.request_of.result c.request_of.ensures.asks c.request_of.ensures.shared c.allocate_named.result c.allocate_named.new.self
     c.allocate_named.ensures.allocates in
-    let here : Allocates V d (state_of i.pool i.debug) c.allocate_named.result (now g c) =
+    let here : AllocatorAllocates V d (state_of i.pool i.debug) c.allocate_named.result (now g c) =
     subst (λ v. AllocatesBy V d v (state_of i.pool i.debug) c.allocate_named.result (now g c)) (sym valid) tried in
-    subst (λ (s : State g.row.D.Denot). Allocates V d s c.allocate_named.result (now g c)) c.self.view_is here
+    subst (λ (s : State g.row.D.Denot). AllocatorAllocates V d s c.allocate_named.result (now g c)) c.self.view_is here
 
 pub returns-clause-allocates : goal.returns-clause-allocates
 returns-clause-allocates g c = allocates g (goal.at.returns-clause-allocates g c).After-allocate_named

@@ -1,5 +1,5 @@
 use Rattle.std.proofs.Common.{◌≡◌, ◌∙◌, sym, subst}
-use Rattle.gpu_pool.specs.Free.{Frees, GivesBackOf}
+use Rattle.gpu_pool.specs.Free.{PoolFrees, GivesBackOf}
 use Rattle.gpu_pool.specs.Live.{IsLive}
 use Rattle.gpu_pool.specs.Source.{result_of}
 use Rattle.gpu_pool.specs.State.{State}
@@ -32,7 +32,7 @@ returns-clause-frees g c =
     let B = g.S.BlockSource in
     let eq = g.S.Handle.PartialEq.eq in
     let a = c.args in
-    subst (λ (s : State g.row.S.Denot g.row.S-Handle.Denot). Frees B.gives_back eq a.index a.piece.now s (result_of c.free_piece.result) (now g later)) c.self.view_is
+    subst (λ (s : State g.row.S.Denot g.row.S-Handle.Denot). PoolFrees B.gives_back eq a.index a.piece.now s (result_of c.free_piece.result) (now g later)) c.self.view_is
     (frees_over (GivesBackOf B) B.gives_back (λ s. s) eq a.index a.piece.now (was g later) (now g later) (λ handle k. k.exactly) (result_of c.free_piece.result) c.free_piece.ensures.frees)
 
 pub returns-clause-constant : goal.returns-clause-constant

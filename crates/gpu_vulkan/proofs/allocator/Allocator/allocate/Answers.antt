@@ -9,7 +9,7 @@ use Rattle.gpu_vulkan.specs.State.{State, Pool, IsConstant, state_of, setup_of}
 use Rattle.gpu_vulkan.specs.Step.{IsAllocateStep}
 use Rattle.gpu_vulkan.proofs.Following.{best_below}
 use Rattle.gpu_vulkan.proofs.Steps.{served, served_step, invalid_step, unfit_step}
-use Rattle.gpu_vulkan.proofs.Fallback.{Tries, Serves, granted_at_once, refused_at_once, tried_again}
+use Rattle.gpu_vulkan.proofs.Fallback.{Tries, TypeServes, granted_at_once, refused_at_once, tried_again}
 use Rattle.gpu_values.specs.Refusal.{Refusal, refusal_of}
 use Rattle.gpu_vulkan.specs.Source.{SourceState}
 use Rattle.gpu_vulkan.specs.declared.allocator.Allocator.TheInside.{Inside}
@@ -48,7 +48,7 @@ falls_back : {D : Type 0} (d : AllocationCreateDesc) (r : Refusal) (old mid : Po
 falls_back {D} d r old mid source lent next constant source_is lent_is is =
     ap (λ s. next_type s d r) (sym constant.setup) ∙ ap (λ (s : SourceState D). next_type s.setup d r) (sym source_is) ∙ ap (λ s. next_type s d r) (sym lent_is) ∙ sym is
 
-serves : (g : _) (c : After-blocks_are_held-in-Some g) → Serves g.D.VulkanDevice c.in-Some.index c.args.desc.now c.self.inside.pool c.match-allocate_in_type.result c.match-allocate_in_type.self-inside.pool
+serves : (g : _) (c : After-blocks_are_held-in-Some g) → TypeServes g.D.VulkanDevice c.in-Some.index c.args.desc.now c.self.inside.pool c.match-allocate_in_type.result c.match-allocate_in_type.self-inside.pool
 serves g c =
     let V = g.D.VulkanDevice in
     let t = c.in-Some.index in
@@ -58,17 +58,17 @@ serves g c =
     let first = tries g (goal.at.returns-after-allocate_in_type-clause-step g c).After-allocate_in_type in
     elim c.match-allocate_in_type.branch [
       | in-Ok w ↦
-          subst (λ r. Serves V t d old r c.match-allocate_in_type.self-inside.pool) (sym w.result-is) (subst (λ (x : Inside g.row.D.Denot). Serves V t d old (Ok w.in-Ok.allocation) x.pool) (sym w.self-inside-is)
+          subst (λ r. TypeServes V t d old r c.match-allocate_in_type.self-inside.pool) (sym w.result-is) (subst (λ (x : Inside g.row.D.Denot). TypeServes V t d old (Ok w.in-Ok.allocation) x.pool) (sym w.self-inside-is)
           (granted_at_once V t d old w.in-Ok.allocation mid (subst (λ r. Tries V t d old r mid) w.in-Ok.is first)))
       | in-Err+in-None-next_type w ↦
-          subst (λ r. Serves V t d old r c.match-allocate_in_type.self-inside.pool) (sym w.result-is) (subst (λ (x : Inside g.row.D.Denot). Serves V t d old (Err w.in-Err.error) x.pool) (sym w.self-inside-is)
+          subst (λ r. TypeServes V t d old r c.match-allocate_in_type.self-inside.pool) (sym w.result-is) (subst (λ (x : Inside g.row.D.Denot). TypeServes V t d old (Err w.in-Err.error) x.pool) (sym w.self-inside-is)
           (refused_at_once V t d old w.in-Err.error mid (subst (λ r. Tries V t d old r mid) w.in-Err.is first)
           (falls_back d (refusal_of w.in-Err.error) old mid w.source.result.now w.setup-in-Err.result.now w.next_type.result first.constant w.source.ensures.lent w.setup-in-Err.ensures.lent
           w.next_type.ensures.next ∙ w.in-None-next_type.is)))
       | in-Err+in-Some-next_type w ↦
           (let again = w.allocate_in_type-in-Some-next_type in
           let e = again.ensures in
-          subst (λ r. Serves V t d old r c.match-allocate_in_type.self-inside.pool) (sym w.result-is) (subst (λ (x : Inside g.row.D.Denot). Serves V t d old again.result x.pool) (sym w.self-inside-is)
+          subst (λ r. TypeServes V t d old r c.match-allocate_in_type.self-inside.pool) (sym w.result-is) (subst (λ (x : Inside g.row.D.Denot). TypeServes V t d old again.result x.pool) (sym w.self-inside-is)
           (tried_again V t d old w.in-Err.error mid (subst (λ r. Tries V t d old r mid) w.in-Err.is first) w.in-Some-next_type.next
           (falls_back d (refusal_of w.in-Err.error) old mid w.source.result.now w.setup-in-Err.result.now w.next_type.result first.constant w.source.ensures.lent w.setup-in-Err.ensures.lent
           w.next_type.ensures.next ∙ w.in-Some-next_type.is)

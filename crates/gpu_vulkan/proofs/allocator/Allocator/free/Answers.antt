@@ -1,7 +1,7 @@
 use Rattle.std.proofs.Common.{rules, Some, None, Option, ◌≡◌, ◌∙◌, sym, subst}
 use Rattle.gpu_core.specs.declared.piece.Piece.{Piece}
 use Rattle.gpu_device.specs.declared.vulkan.types.DeviceMemory.{DeviceMemory}
-use Rattle.gpu_vulkan.specs.Free.{FreesPiece, Frees}
+use Rattle.gpu_vulkan.specs.Free.{FreesPiece, AllocatorFrees}
 use Rattle.gpu_vulkan.specs.Live.{piece_of, IsLive}
 use Rattle.gpu_vulkan.specs.State.{State, state_of}
 use Rattle.gpu_vulkan.specs.Step.{IsStep, Free, freed_as}
@@ -12,7 +12,7 @@ use Rattle.gpu_vulkan.proofs.allocator.Allocator.free.Goals as goal
 
 -- the pool's free, in Vulkan's own words
 frees : (g : _) (c : Joined-free g)
-    → Frees g.D.VulkanDevice c.args.allocation c.self.inside.pool.slots c.self.inside.pool.source.device c.match-free.result c.free.new.self.slots c.free.new.self.source.device
+    → AllocatorFrees g.D.VulkanDevice c.args.allocation c.self.inside.pool.slots c.self.inside.pool.source.device c.match-free.result c.free.new.self.slots c.free.new.self.source.device
 frees g c =
     let V = g.D.VulkanDevice in
     let a = c.args.allocation in
@@ -51,4 +51,4 @@ returns-clause-keeps g c = λ b live other.
 pub returns-clause-frees : goal.returns-clause-frees
 returns-clause-frees g c =
     let new = c.free.new.self in
-    subst (λ (s : State g.row.D.Denot). Frees g.D.VulkanDevice c.args.allocation s.slots s.device c.match-free.result new.slots new.source.device) c.self.view_is (frees g ((goal.at.returns-clause-frees g c).Joined-free))
+    subst (λ (s : State g.row.D.Denot). AllocatorFrees g.D.VulkanDevice c.args.allocation s.slots s.device c.match-free.result new.slots new.source.device) c.self.view_is (frees g ((goal.at.returns-clause-frees g c).Joined-free))

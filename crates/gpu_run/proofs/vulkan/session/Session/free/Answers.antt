@@ -3,7 +3,7 @@ use Rattle.gpu_run.specs.VulkanReply as replies
 use Rattle.gpu_run.specs.VulkanSession as sessions
 use Rattle.gpu_run.specs.VulkanCommand.{Free, Under}
 use Rattle.gpu_vulkan.proofs.Untouched.{same_leaves, free_leaves}
-use Rattle.gpu_run.specs.VulkanServed.{SessionValue, session_of, IsServed}
+use Rattle.gpu_run.specs.VulkanServed.{SessionValue, session_of, IsCommandServed}
 use Rattle.gpu_run.specs.Bindings.{bindings_of}
 use Rattle.gpu_run.proofs.Binding.{rebound}
 use Rattle.gpu_run.proofs.VulkanServing.{quiet, serves_at}
@@ -16,7 +16,7 @@ returns-in-None g c =
     let new : SessionValue g.row.D.Denot = record { allocator = c.self.inside.allocator; bound = c.remove.new.self.entries } in
     let same : new ≡ s = ap (λ es. record { allocator = s.allocator; bound = es }) c.in-None.ensures.unchanged in
     let none : bindings_of s.bound c.args.key ≡ None = sym c.in-None.ensures.value in
-    subst (λ x. IsServed V (Under c.args.key Free) replies.Unbound x new) c.self.view_is (record {
+    subst (λ x. IsCommandServed V (Under c.args.key Free) replies.Unbound x new) c.self.view_is (record {
       environment = quiet;
       serves = serves_at s.allocator.setup (session_of V s) (session_of V new) c.args.key Free quiet replies.Unbound None none (refl, ((refl, refl), ap (session_of V) same));
       count = refl;
@@ -33,7 +33,7 @@ returns-in-Ok g c =
     let some : bindings_of s.bound c.args.key ≡ Some c.in-Some.allocation = sym c.in-Some.ensures.value in
     let step = c.in-Ok.ensures.step in
     let o : sessions.CommandEnvironment = record { room = true; call = step.environment } in
-    subst (λ x. IsServed V (Under c.args.key Free) replies.Done x new) c.self.view_is (record {
+    subst (λ x. IsCommandServed V (Under c.args.key Free) replies.Done x new) c.self.view_is (record {
       environment = o;
       serves = serves_at s.allocator.setup (session_of V s) (session_of V new) c.args.key Free o replies.Done (Some c.in-Some.allocation) some
           (record { done = refl; step = step.step; bound = rebound s.bound new.bound c.args.key None c.remove.ensures.updates.0 });

@@ -9,7 +9,7 @@ use Rattle.gpu_run.specs.Bindings.{bindings_of}
 use Rattle.gpu_run.specs.VulkanReply as replies
 use Rattle.gpu_run.specs.VulkanCommand.{Move, Under}
 use Rattle.gpu_run.specs.VulkanSession.{ServesMove}
-use Rattle.gpu_run.specs.VulkanServed.{SessionValue, session_of, reply_of, IsServed}
+use Rattle.gpu_run.specs.VulkanServed.{SessionValue, session_of, reply_of, IsCommandServed}
 use Rattle.gpu_run.proofs.Binding.{some_bound, none_bound, same_bindings, bound_after}
 use Rattle.gpu_run.proofs.VulkanMoving.{placed, no_place, not_proposed}
 use Rattle.gpu_run.proofs.VulkanOwning.{own_given}
@@ -21,7 +21,7 @@ returns-then-not-contains_key g c =
     let V = g.D.VulkanDevice in
     let s : SessionValue g.row.D.Denot = record { allocator = c.self.inside.allocator; bound = c.self.inside.bound.entries } in
     let none = none_bound (lookup (nat_eq c.args.key) s.bound) c.contains_key.result c.contains_key.ensures c.if-not-contains_key.true in
-    λ w d. subst (λ x. IsServed V (Under c.args.key (Move c.args.to w)) replies.Unbound x x) c.self.view_is
+    λ w d. subst (λ x. IsCommandServed V (Under c.args.key (Move c.args.to w)) replies.Unbound x x) c.self.view_is
     (served_quietly V c.args.key (Move c.args.to w) replies.Unbound s quiet None refl none (refl, stayed (session_of V s)))
 
 pub returns-then-contains_key : goal.returns-then-contains_key
@@ -30,7 +30,7 @@ returns-then-contains_key g c =
     let s : SessionValue g.row.D.Denot = record { allocator = c.self.inside.allocator; bound = c.self.inside.bound.entries } in
     let a = some_bound (lookup (nat_eq c.args.key) s.bound) c.contains_key.result c.contains_key.ensures c.if-not-contains_key.false in
     let b = some_bound (lookup (nat_eq c.args.to) s.bound) c.contains_key-2.result c.contains_key-2.ensures c.if-contains_key.true in
-    λ w d. subst (λ x. IsServed V (Under c.args.key (Move c.args.to w)) replies.Busy x x) c.self.view_is
+    λ w d. subst (λ x. IsCommandServed V (Under c.args.key (Move c.args.to w)) replies.Busy x x) c.self.view_is
     (served_quietly V c.args.key (Move c.args.to w) replies.Busy s quiet (Some a.0) refl a.1
     (subst (λ f. ServesMove s.allocator.setup c.args.to f a.0 w quiet replies.Busy (session_of V s) (session_of V s)) (sym b.1) (refl, stayed (session_of V s))))
 
@@ -43,7 +43,7 @@ returns-then-is_err g c =
     let none = none_bound (lookup (nat_eq c.args.to) s.bound) c.contains_key-2.result c.contains_key-2.ensures c.if-contains_key.false in
     let reply = replies.Error host_out_of_memory in
     let same : session_of V new ≡ session_of V s = ap (λ b. record { bound = b; model = model_of V s.allocator }) (same_bindings s.bound new.bound (c.reserve.ensures.entries.2)) in
-    λ w d. subst (λ x. IsServed V (Under c.args.key (Move c.args.to w)) reply x new) c.self.view_is (record {
+    λ w d. subst (λ x. IsCommandServed V (Under c.args.key (Move c.args.to w)) reply x new) c.self.view_is (record {
       environment = short;
       serves = serves_at s.allocator.setup (session_of V s) (session_of V new) c.args.key (Move c.args.to w) short reply (Some a.0) a.1
           (subst (λ f. ServesMove s.allocator.setup c.args.to f a.0 w short reply (session_of V s) (session_of V new)) (sym none) ((refl, refl), refl, same));
@@ -70,7 +70,7 @@ returns-in-Err g c =
     let new : SessionValue g.row.D.Denot = record { allocator = c.propose_move.new.self; bound = c.reserve.new.self.entries } in
     let found : bindings_of s.bound c.args.key ≡ Some c.in-Some.from.now = sym (c.in-Some.ensures.value ∙ c.reserve.ensures.entries.2 c.args.key) in
     let none = none_bound (lookup (nat_eq c.args.to) s.bound) c.contains_key-2.result c.contains_key-2.ensures c.if-contains_key.false in
-    λ w d. subst (λ x. IsServed V (Under c.args.key (Move c.args.to w)) (replies.Error (refusal_of c.in-Err.error)) x new) c.self.view_is
+    λ w d. subst (λ x. IsCommandServed V (Under c.args.key (Move c.args.to w)) (replies.Error (refusal_of c.in-Err.error)) x new) c.self.view_is
     (not_proposed V s new c.args.key c.args.to w c.args.desc.now d c.in-Some.from.now found none c.propose_move.ensures.others c.in-Err.error
     (same_bindings s.bound new.bound (c.reserve.ensures.entries.2)) c.in-Err.ensures.step)
 
@@ -82,7 +82,7 @@ returns-in-Ok-None g c =
     let found : bindings_of s.bound c.args.key ≡ Some c.in-Some.from.now = sym (c.in-Some.ensures.value ∙ c.reserve.ensures.entries.2 c.args.key) in
     let none = none_bound (lookup (nat_eq c.args.to) s.bound) c.contains_key-2.result c.contains_key-2.ensures c.if-contains_key.false in
     let step : IsMoveStep V c.in-Some.from.now c.args.desc.now (Ok None) s.allocator new.allocator = rw c.in-Ok-None.field-0-is at c.in-Ok-None.ensures.step in
-    λ w d. subst (λ x. IsServed V (Under c.args.key (Move c.args.to w)) replies.NoPlace x new) c.self.view_is
+    λ w d. subst (λ x. IsCommandServed V (Under c.args.key (Move c.args.to w)) replies.NoPlace x new) c.self.view_is
     (no_place V s new c.args.key c.args.to w c.args.desc.now d c.in-Some.from.now found none c.propose_move.ensures.others
     (same_bindings s.bound new.bound (c.reserve.ensures.entries.2)) step)
 
@@ -96,5 +96,5 @@ returns-in-Ok-Some g c =
     let to = c.in-Ok-Some.second in
     let step : IsMoveStep V c.in-Some.from.now c.args.desc.now (Ok (Some to)) s.allocator new.allocator = rw c.in-Ok-Some.field-0-is at c.in-Ok-Some.ensures.step in
     let is = bound_after s.bound c.reserve.new.self.entries new.bound c.args.to (Some to) (c.reserve.ensures.entries.2) c.bind.ensures in
-    λ w d. subst (λ x. IsServed V (Under c.args.key (Move c.args.to w)) (reply_of c.allocated-given.result) x new) c.self.view_is
+    λ w d. subst (λ x. IsCommandServed V (Under c.args.key (Move c.args.to w)) (reply_of c.allocated-given.result) x new) c.self.view_is
     (placed V s new c.args.key c.args.to w c.args.desc.now d c.in-Some.from.now found none c.propose_move.ensures.others to (reply_of c.allocated-given.result) is step c.allocated-given.ensures)

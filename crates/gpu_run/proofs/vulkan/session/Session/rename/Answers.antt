@@ -3,7 +3,7 @@ use Rattle.std.specs.Prelude.{IsSome}
 use Rattle.gpu_vulkan.specs.Live.{piece_of}
 use Rattle.gpu_run.specs.VulkanReply as replies
 use Rattle.gpu_run.specs.VulkanCommand.{Rename, Under}
-use Rattle.gpu_run.specs.VulkanServed.{SessionValue, session_of, reply_of, IsServed}
+use Rattle.gpu_run.specs.VulkanServed.{SessionValue, session_of, reply_of, IsCommandServed}
 use Rattle.gpu_run.specs.Bindings.{bindings_of}
 use Rattle.gpu_run.proofs.Binding.{rebound}
 use Rattle.gpu_run.proofs.VulkanNaming.{named_of, same_of, renamed, not_renamed}
@@ -18,8 +18,8 @@ returns-in-None g c =
     let new : SessionValue g.row.D.Denot = record { allocator = c.self.inside.allocator; bound = c.get_mut.follows.lender-at-none.entries } in
     let same : s ≡ new = ap (λ m. record { allocator = s.allocator; bound = m.entries }) (sym (c.get_mut.follows.holds-at-none)) in
     let none : bindings_of s.bound c.args.key ≡ None = sym c.in-None.ensures.value in
-    subst (λ x. IsServed V (Under c.args.key (Rename c.args.name.now)) replies.Unbound x new) c.self.view_is
-    (subst (λ y. IsServed V (Under c.args.key (Rename c.args.name.now)) replies.Unbound s y) same
+    subst (λ x. IsCommandServed V (Under c.args.key (Rename c.args.name.now)) replies.Unbound x new) c.self.view_is
+    (subst (λ y. IsCommandServed V (Under c.args.key (Rename c.args.name.now)) replies.Unbound s y) same
     (served_quietly V c.args.key (Rename c.args.name.now) replies.Unbound s quiet None refl none (refl, stayed (session_of V s))))
 
 pub returns-after-rename_allocation : goal.returns-after-rename_allocation
@@ -34,7 +34,7 @@ returns-after-rename_allocation g c =
     let is = rebound s.bound new.bound c.args.key (Some b) ((c.get_mut.follows.holds b).3 some).0 in
     let reply = reply_of c.match-rename_allocation.result in
     let constant : (new.allocator.setup ≡ s.allocator.setup) × (new.allocator.first ≡ s.allocator.first) = (c.rename_allocation.ensures.constant.2, c.rename_allocation.ensures.constant.1) in
-    subst (λ x. IsServed V (Under c.args.key (Rename c.args.name.now)) reply x new) c.self.view_is
+    subst (λ x. IsCommandServed V (Under c.args.key (Rename c.args.name.now)) reply x new) c.self.view_is
     (elim c.match-rename_allocation.branch [
       | in-Ok w ↦
           renamed V s new c.args.key c.args.name.now a b reply found is constant c.rename_allocation.ensures.constant.0
