@@ -93,7 +93,7 @@ enum {
      * that isn't UTF-8. Of a ring: a size of 0 or of 2^63 and more, or an alignment of 0. Of a plan also a last pass before the first, and an
      * index that no resource has. */
     PILHANGKO_INVALID = 4,
-    /* The page size of a device is no power of two, or its resource heap tier is 0. */
+    /* The page size of a device is no power of two. */
     PILHANGKO_INVALID_DEVICE = 5,
     /* No live piece, or no record of a committed resource, is the one that is named; or no frame in flight. */
     PILHANGKO_NOT_LIVE = 6,
@@ -115,6 +115,8 @@ enum {
     PILHANGKO_TOO_MANY_TYPES = 14,
     /* A memory type of a device lies in a heap that isn't there. */
     PILHANGKO_NO_SUCH_HEAP = 15,
+    /* The resource heap tier of a device is 0. */
+    PILHANGKO_INVALID_TIER = 16,
     /* The handle is empty. */
     PILHANGKO_NO_HANDLE = 100,
     /* create was given a handle that isn't empty. */
@@ -316,9 +318,11 @@ typedef struct pilhangko_memory_statistics {
     bool awaits_block; /* whether a block is awaited */
 } pilhangko_memory_statistics;
 
-/* What is counted of the block in a slot, or none. */
+/* The size of the block in a slot, and what is counted of it; or that there is none. */
 typedef struct pilhangko_memory_block_statistics {
     bool exists; /* else all is 0 */
+    bool shared; /* whether pieces share it; else it is one piece's own */
+    uint64_t size;
     size_t pieces;
     uint64_t piece_bytes;
     size_t gaps;
@@ -981,6 +985,7 @@ static inline const char *pilhangko_status_name(pilhangko_status status) {
     case PILHANGKO_NO_SUCH_TYPE: return "PILHANGKO_NO_SUCH_TYPE";
     case PILHANGKO_TOO_MANY_TYPES: return "PILHANGKO_TOO_MANY_TYPES";
     case PILHANGKO_NO_SUCH_HEAP: return "PILHANGKO_NO_SUCH_HEAP";
+    case PILHANGKO_INVALID_TIER: return "PILHANGKO_INVALID_TIER";
     case PILHANGKO_NO_HANDLE: return "PILHANGKO_NO_HANDLE";
     case PILHANGKO_IN_USE: return "PILHANGKO_IN_USE";
     case PILHANGKO_AWAITS_BLOCK: return "PILHANGKO_AWAITS_BLOCK";
@@ -1018,7 +1023,7 @@ static inline const char *pilhangko_status_text(pilhangko_status status) {
     case PILHANGKO_FAILED_TO_MAP: return "the driver granted memory, but didn't map it";
     case PILHANGKO_NO_MEMORY_TYPE: return "no memory type that the request allows has what its location needs";
     case PILHANGKO_INVALID: return "invalid request: a size, an alignment, a page size, a kind or a name";
-    case PILHANGKO_INVALID_DEVICE: return "invalid device: the page size is no power of two, or the resource heap tier is 0";
+    case PILHANGKO_INVALID_DEVICE: return "invalid device: the page size is no power of two";
     case PILHANGKO_NOT_LIVE: return "no live piece, record or frame in flight is the one that is named";
     case PILHANGKO_LAYOUT_NEEDS_DEVICE10: return "a resource that begins in a barrier layout needs an ID3D12Device10";
     case PILHANGKO_FORMATS_NEED_LAYOUT: return "a resource with castable formats has to begin in a barrier layout";
@@ -1029,6 +1034,7 @@ static inline const char *pilhangko_status_text(pilhangko_status status) {
     case PILHANGKO_NO_SUCH_TYPE: return "no memory type has that index";
     case PILHANGKO_TOO_MANY_TYPES: return "invalid device: more than 32 memory types";
     case PILHANGKO_NO_SUCH_HEAP: return "invalid device: a memory type lies in a heap that isn't there";
+    case PILHANGKO_INVALID_TIER: return "invalid device: the resource heap tier is 0";
     case PILHANGKO_NO_HANDLE: return "the handle is empty";
     case PILHANGKO_IN_USE: return "the handle is in use, and create needs an empty one";
     case PILHANGKO_AWAITS_BLOCK: return "a block is awaited: install or abandon it first";
@@ -1710,7 +1716,7 @@ static inline pilhangko_status pilhangko_allocator_destroy(pilhangko_allocator *
 }
 
 /* Makes an allocator of a device of that resource heap tier, without blocks and committed resources, in an empty handle.
- * IN_USE: the handle isn't empty. INVALID_DEVICE: the tier is 0. HOST_OUT_OF_MEMORY. */
+ * IN_USE: the handle isn't empty. INVALID_TIER: the tier is 0. HOST_OUT_OF_MEMORY. */
 PILHANGKO_NODISCARD static inline pilhangko_status pilhangko_heaps_create(
     pilhangko_heaps *heaps, const pilhangko_heaps_settings *settings) {
     if (!heaps || !settings) return PILHANGKO_NULL_POINTER;
@@ -2195,7 +2201,7 @@ PILHANGKO_NODISCARD static inline pilhangko_status pilhangko_capture_of_allocato
 }
 
 /* Begins the capture of an allocator of DirectX 12's memory that is made with these settings, in an empty handle.
- * IN_USE: the handle isn't empty. INVALID_DEVICE: the heap tier is 0. HOST_OUT_OF_MEMORY. */
+ * IN_USE: the handle isn't empty. INVALID_TIER: the heap tier is 0. HOST_OUT_OF_MEMORY. */
 PILHANGKO_NODISCARD static inline pilhangko_status pilhangko_capture_of_heaps(
     pilhangko_capture *capture, const pilhangko_heaps_settings *settings) {
     if (!capture || !settings) return PILHANGKO_NULL_POINTER;

@@ -74,7 +74,7 @@ typedef struct pilhangko_d3d12_settings {
 
 /* Makes a binding without heaps in an empty handle. It asks the device for its newest interface, its heap tier and its architecture.
  * NULL_POINTER: a pointer, or the device. IN_USE: the handle isn't empty. HOST_OUT_OF_MEMORY: the binding's own. CALL_FAILED: the device
- * doesn't tell its heap tier, and the settings don't. INVALID_DEVICE: the tier is 0. HOST_OUT_OF_MEMORY. */
+ * doesn't tell its heap tier, and the settings don't. INVALID_TIER: the tier is 0. HOST_OUT_OF_MEMORY. */
 PILHANGKO_NODISCARD PILHANGKO_API pilhangko_d3d12_result PILHANGKO_CALL pilhangko_d3d12_create(
     pilhangko_d3d12 *d3d12, const pilhangko_d3d12_settings *settings);
 

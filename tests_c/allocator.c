@@ -460,7 +460,7 @@ static void types_of_locations(const pilhangko_allocator *a) {
 
 static void blocks_of_slots(const pilhangko_allocator *a) {
     pilhangko_allocator_live_block block = {false, true, false, 9, 9, 9};
-    pilhangko_memory_block_statistics s = {false, 9, 9, 9, 9};
+    pilhangko_memory_block_statistics s = {false, true, 9, 9, 9, 9, 9};
     IS(pilhangko_allocator_block(a, 0, 0, &block), PILHANGKO_OK);
     CHECK(block.exists && !block.mapped && block.shared && block.memory == 1001 && block.address == 0 && block.size == 8 * MB);
     IS(pilhangko_allocator_block(a, 1, 0, &block), PILHANGKO_OK);
@@ -470,9 +470,11 @@ static void blocks_of_slots(const pilhangko_allocator *a) {
     IS(pilhangko_allocator_block(a, SIZE_MAX, 0, &block), PILHANGKO_OK);
     CHECK(!block.exists && !block.mapped && !block.shared && block.memory == 0 && block.address == 0 && block.size == 0);
     IS(pilhangko_allocator_block_statistics(a, 0, 0, &s), PILHANGKO_OK);
-    CHECK(s.exists && s.pieces == 2 && s.piece_bytes == 356 && s.gaps == 1 && s.longest_gap == 8 * MB - 356);
+    CHECK(s.exists && s.shared && s.size == 8 * MB && s.pieces == 2 && s.piece_bytes == 356 && s.gaps == 1 && s.longest_gap == 8 * MB - 356);
+    IS(pilhangko_allocator_block_statistics(a, 1, 0, &s), PILHANGKO_OK);
+    CHECK(s.exists && !s.shared && s.size == 100 && s.pieces == 1 && s.piece_bytes == 100 && s.gaps == 0);
     IS(pilhangko_allocator_block_statistics(a, 3, 0, &s), PILHANGKO_OK);
-    CHECK(!s.exists && s.pieces == 0 && s.piece_bytes == 0 && s.gaps == 0 && s.longest_gap == 0);
+    CHECK(!s.exists && !s.shared && s.size == 0 && s.pieces == 0 && s.piece_bytes == 0 && s.gaps == 0 && s.longest_gap == 0);
 }
 
 static void pieces_of_slots(const pilhangko_allocator *a) {

@@ -251,7 +251,7 @@ static void beginnings(void) {
     pilhangko_heaps_settings no_tier = of_d3d12;
     pilhangko_capture c = {0};
     no_tier.heap_tier = 0;
-    IS(pilhangko_capture_of_heaps(&c, &no_tier), PILHANGKO_INVALID_DEVICE);
+    IS(pilhangko_capture_of_heaps(&c, &no_tier), PILHANGKO_INVALID_TIER);
     IS(pilhangko_capture_freed(&c, 1), PILHANGKO_NO_HANDLE);
     c = begun(METAL);
     for (int api = 0; api < APIS; api++) IS(begins((enum api)api, &c), PILHANGKO_IN_USE);

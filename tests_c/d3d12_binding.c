@@ -356,7 +356,7 @@ static void creations(void) {
     ends(&d3d12, 0);
     fake.tier_code = S_OK;
     fake.tier = (D3D12_RESOURCE_HEAP_TIER)0;
-    is_not_made(&good, PILHANGKO_INVALID_DEVICE, S_OK);
+    is_not_made(&good, PILHANGKO_INVALID_TIER, S_OK);
     fake.tier = (D3D12_RESOURCE_HEAP_TIER)3; /* a later one is as 2 */
     fake.is_unified = true;
     IS(pilhangko_d3d12_create(&d3d12, &good).status, OK);

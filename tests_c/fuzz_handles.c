@@ -905,7 +905,7 @@ static pilhangko_status creates_of_metal_heaps(const pilhangko_allocator_setting
 
 static void creates_capture(void) {
     const uint32_t api = next_small(3), tier = next_small(4);
-    const pilhangko_status valid = api == 1 && tier == 0 ? PILHANGKO_INVALID_DEVICE : PILHANGKO_OK;
+    const pilhangko_status valid = api == 1 && tier == 0 ? PILHANGKO_INVALID_TIER : PILHANGKO_OK;
     pilhangko_allocator_settings s;
     s.page_size = next_number();
     s.device_block_size = next_number();

@@ -164,7 +164,7 @@ static void tiers(void) {
     pilhangko_heaps h = {0};
     pilhangko_heaps_settings s = settings;
     s.heap_tier = 0;
-    IS(pilhangko_heaps_create(&h, &s), PILHANGKO_INVALID_DEVICE);
+    IS(pilhangko_heaps_create(&h, &s), PILHANGKO_INVALID_TIER);
     questions_of_tier(1);
     questions_of_tier(2);
     questions_of_tier(3); /* later tiers are as 2 */
@@ -577,7 +577,7 @@ static void counts_of_types(const pilhangko_heaps *h) {
 
 static void blocks_of_slots(const pilhangko_heaps *h) {
     pilhangko_memory_block block = {false, 9};
-    pilhangko_memory_block_statistics s = {false, 9, 9, 9, 9};
+    pilhangko_memory_block_statistics s = {false, true, 9, 9, 9, 9, 9};
     IS(pilhangko_heaps_block(h, 0, 0, &block), PILHANGKO_OK);
     CHECK(block.exists && block.block == 1001);
     IS(pilhangko_heaps_block(h, 2, 0, &block), PILHANGKO_OK);
@@ -587,9 +587,9 @@ static void blocks_of_slots(const pilhangko_heaps *h) {
     IS(pilhangko_heaps_block(h, SIZE_MAX, 0, &block), PILHANGKO_OK);
     CHECK(!block.exists && block.block == 0);
     IS(pilhangko_heaps_block_statistics(h, 0, 0, &s), PILHANGKO_OK);
-    CHECK(s.exists && s.pieces == 2 && s.piece_bytes == 356 && s.gaps == 1 && s.longest_gap == 8 * MB - 356);
+    CHECK(s.exists && s.shared && s.size == 8 * MB && s.pieces == 2 && s.piece_bytes == 356 && s.gaps == 1 && s.longest_gap == 8 * MB - 356);
     IS(pilhangko_heaps_block_statistics(h, 3, 0, &s), PILHANGKO_OK);
-    CHECK(!s.exists && s.pieces == 0 && s.piece_bytes == 0 && s.gaps == 0 && s.longest_gap == 0);
+    CHECK(!s.exists && !s.shared && s.size == 0 && s.pieces == 0 && s.piece_bytes == 0 && s.gaps == 0 && s.longest_gap == 0);
 }
 
 static void pieces_of_slots(const pilhangko_heaps *h) {

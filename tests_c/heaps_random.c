@@ -259,10 +259,12 @@ static void looks_at_slot(size_t type, size_t slot) {
     IS(pilhangko_heaps_piece_names(&heaps, type, slot, from, lengths, room, all, all_room, &named), PILHANGKO_OK);
     CHECK(counted.exists == is_there && shown == named);
     if (!there) {
-        CHECK(shown == 0 && counted.pieces == 0 && counted.piece_bytes == 0 && counted.gaps == 0 && counted.longest_gap == 0);
+        CHECK(shown == 0 && !counted.shared && counted.size == 0 && counted.pieces == 0 && counted.piece_bytes == 0);
+        CHECK(counted.gaps == 0 && counted.longest_gap == 0);
         return;
     }
-    pilhangko_virtual_statistics same = {there->account.size, counted.pieces, counted.piece_bytes, counted.gaps, counted.longest_gap};
+    CHECK(counted.shared == !there->dedicated);
+    pilhangko_virtual_statistics same = {counted.size, counted.pieces, counted.piece_bytes, counted.gaps, counted.longest_gap};
     account_same(&there->account, &same);
     account_shows_all(&there->account, from, views, room, shown);
     account_names_all(&there->account, from, lengths, room, all, all_room, named);

@@ -104,9 +104,11 @@ static void statistics_of_blocks(void) {
     five_pieces(&type, piece);
     pilhangko_memory_block_statistics counted;
     IS(pilhangko_memory_type_block_statistics(&type, 0, &counted), PILHANGKO_OK);
-    CHECK(counted.exists && counted.pieces == 2 && counted.piece_bytes == 150 && counted.gaps == 1 && counted.longest_gap == 4 * MB - 150);
+    CHECK(counted.exists && counted.shared && counted.size == 4 * MB);
+    CHECK(counted.pieces == 2 && counted.piece_bytes == 150 && counted.gaps == 1 && counted.longest_gap == 4 * MB - 150);
     IS(pilhangko_memory_type_block_statistics(&type, 3, &counted), PILHANGKO_OK);
-    CHECK(counted.exists && counted.pieces == 1 && counted.piece_bytes == 10 && counted.gaps == 0 && counted.longest_gap == 0);
+    CHECK(counted.exists && !counted.shared && counted.size == 10);
+    CHECK(counted.pieces == 1 && counted.piece_bytes == 10 && counted.gaps == 0 && counted.longest_gap == 0);
     IS(pilhangko_memory_type_block_statistics(&type, 4, &counted), PILHANGKO_OK);
     CHECK(!counted.exists && counted.pieces == 0);
     IS(pilhangko_memory_type_destroy(&type), PILHANGKO_OK);

@@ -91,12 +91,13 @@ static void look_at_pieces(size_t i, const pilhangko_memory_block_statistics *co
     IS(pilhangko_memory_type_piece_names(&type, i, from, lengths, view_room, all, all_room, &named), PILHANGKO_OK);
     if (!counted->exists) {
         CHECK(shown == 0 && named == 0 && (!view_room || (views[0].number == UINT64_MAX && lengths[0] == SIZE_MAX)));
-        CHECK(!view.exists && view.number == 0 && counted->pieces == 0 && counted->piece_bytes == 0 && counted->gaps == 0 &&
-              counted->longest_gap == 0);
+        CHECK(!view.exists && view.number == 0 && !counted->shared && counted->size == 0);
+        CHECK(counted->pieces == 0 && counted->piece_bytes == 0 && counted->gaps == 0 && counted->longest_gap == 0);
         return;
     }
+    CHECK(counted->shared == !account.slots[i].dedicated);
     pilhangko_virtual_statistics same = {
-        account.slots[i].account.size, counted->pieces, counted->piece_bytes, counted->gaps, counted->longest_gap};
+        counted->size, counted->pieces, counted->piece_bytes, counted->gaps, counted->longest_gap};
     account_same(&account.slots[i].account, &same);
     account_shows(&account.slots[i].account, from, &view);
     account_shows_all(&account.slots[i].account, from, views, view_room, shown);

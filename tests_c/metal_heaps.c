@@ -349,7 +349,7 @@ static void counts_of_types(const pilhangko_metal_heaps *h) {
 
 static void blocks_of_slots(const pilhangko_metal_heaps *h) {
     pilhangko_metal_heap heap = {false, 9, false};
-    pilhangko_memory_block_statistics s = {false, 9, 9, 9, 9};
+    pilhangko_memory_block_statistics s = {false, true, 9, 9, 9, 9, 9};
     IS(pilhangko_metal_heaps_block(h, 0, 0, &heap), PILHANGKO_OK);
     CHECK(heap.exists && heap.heap == 1001 && heap.leaves);
     IS(pilhangko_metal_heaps_block(h, 2, 0, &heap), PILHANGKO_OK);
@@ -359,9 +359,9 @@ static void blocks_of_slots(const pilhangko_metal_heaps *h) {
     IS(pilhangko_metal_heaps_block(h, SIZE_MAX, 0, &heap), PILHANGKO_OK);
     CHECK(!heap.exists && heap.heap == 0 && !heap.leaves);
     IS(pilhangko_metal_heaps_block_statistics(h, 0, 0, &s), PILHANGKO_OK);
-    CHECK(s.exists && s.pieces == 2 && s.piece_bytes == 356 && s.gaps == 1 && s.longest_gap == 8 * MB - 356);
+    CHECK(s.exists && s.shared && s.size == 8 * MB && s.pieces == 2 && s.piece_bytes == 356 && s.gaps == 1 && s.longest_gap == 8 * MB - 356);
     IS(pilhangko_metal_heaps_block_statistics(h, 3, 0, &s), PILHANGKO_OK);
-    CHECK(!s.exists && s.pieces == 0 && s.piece_bytes == 0 && s.gaps == 0 && s.longest_gap == 0);
+    CHECK(!s.exists && !s.shared && s.size == 0 && s.pieces == 0 && s.piece_bytes == 0 && s.gaps == 0 && s.longest_gap == 0);
 }
 
 static void pieces_of_slots(const pilhangko_metal_heaps *h) {

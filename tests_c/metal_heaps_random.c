@@ -184,6 +184,7 @@ static void looks_at_slot(size_t type, size_t slot) {
     CHECK(heap.exists == is_there && heap.heap == (is_there ? s->block : 0) && heap.leaves == (is_there && account.has_set));
     IS(pilhangko_metal_heaps_block_statistics(&heaps, type, slot, &counts), PILHANGKO_OK);
     CHECK(counts.exists == is_there && counts.pieces == (is_there ? account_pieces(&s->account) : 0));
+    CHECK(counts.size == (is_there ? s->account.size : 0) && counts.shared == (is_there && !s->dedicated));
     IS(pilhangko_metal_heaps_pieces(&heaps, type, slot, 0, views, 8, &count), PILHANGKO_OK);
     CHECK(count == (counts.pieces < 8 ? counts.pieces : 8));
     for (size_t i = 0, at = 0; i < count; i++, at++) {

@@ -318,7 +318,7 @@ static void status_words(void) {
         PILHANGKO_AWAITS_NO_BLOCK, PILHANGKO_NULL_POINTER, PILHANGKO_FAILED_TO_MAP, PILHANGKO_NO_MEMORY_TYPE, PILHANGKO_INVALID_DEVICE,
         PILHANGKO_DRIVER_REFUSED, PILHANGKO_NO_SUCH_TYPE, PILHANGKO_TOO_MANY_TYPES, PILHANGKO_NO_SUCH_HEAP, PILHANGKO_AWAITS_ANSWER,
         PILHANGKO_AWAITS_NO_ANSWER, PILHANGKO_TOO_MANY_FRAMES, PILHANGKO_LAYOUT_NEEDS_DEVICE10, PILHANGKO_FORMATS_NEED_LAYOUT,
-        PILHANGKO_FORMATS_NEED_DEVICE12, 16};
+        PILHANGKO_FORMATS_NEED_DEVICE12, PILHANGKO_INVALID_TIER, 17};
     const size_t count = sizeof statuses / sizeof statuses[0];
     for (size_t i = 0; i < count; i++)
         for (size_t j = 0; j < i; j++) {
@@ -326,7 +326,7 @@ static void status_words(void) {
             CHECK(strcmp(pilhangko_status_text(statuses[i]), pilhangko_status_text(statuses[j])) != 0);
         }
     CHECK(!strcmp(pilhangko_status_name(PILHANGKO_BUDGET_EXCEEDED), "PILHANGKO_BUDGET_EXCEEDED"));
-    CHECK(!strcmp(pilhangko_status_name(16), "unknown status") && !strcmp(pilhangko_status_text(16), "unknown status"));
+    CHECK(!strcmp(pilhangko_status_name(17), "unknown status") && !strcmp(pilhangko_status_text(17), "unknown status"));
 }
 
 int main(void) {

@@ -295,8 +295,8 @@ static void texts(void) {
         CHECK(!strncmp(pilhangko_status_name(status), "PILHANGKO_VULKAN_", 17));
         CHECK(strcmp(pilhangko_status_text(status), "unknown status"));
     }
-    CHECK(!strcmp(pilhangko_status_text(PILHANGKO_INVALID_DEVICE),
-        "invalid device: the page size is no power of two, or the resource heap tier is 0"));
+    CHECK(!strcmp(pilhangko_status_text(PILHANGKO_INVALID_DEVICE), "invalid device: the page size is no power of two"));
+    CHECK(!strcmp(pilhangko_status_text(PILHANGKO_INVALID_TIER), "invalid device: the resource heap tier is 0"));
     CHECK(!strcmp(pilhangko_status_text(PILHANGKO_VULKAN_INVALID_ATOM_SIZE), "invalid device: nonCoherentAtomSize is no power of two"));
     CHECK(!strcmp(pilhangko_status_text(PILHANGKO_VULKAN_TOO_MANY_HEAPS), "invalid device: more than 16 memory heaps"));
     CHECK(!strcmp(pilhangko_status_text(309), "unknown status") && !strcmp(pilhangko_status_name(309), "unknown status"));

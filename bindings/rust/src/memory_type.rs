@@ -163,9 +163,13 @@ pub struct MemoryStatistics {
     pub budget: Option<u64>,
 }
 
-/// What is counted of a block of a memory type.
+/// The size of a block of a memory type, and what is counted of it.
 #[derive(Clone, Copy, Debug, Default, PartialEq, Eq)]
 pub struct BlockStatistics {
+    /// Its size in bytes.
+    pub size: u64,
+    /// Whether pieces share it; else it is one piece's own.
+    pub shared: bool,
     /// How many pieces are live.
     pub pieces: usize,
     /// What they take in bytes, with the padding before them.
@@ -180,6 +184,8 @@ impl BlockStatistics {
     /// What is counted of a block, if there is one.
     pub(crate) fn counted(s: &raw::MemoryBlockStatistics) -> Option<Self> {
         s.exists.then_some(BlockStatistics {
+            size: s.size,
+            shared: s.shared,
             pieces: s.pieces,
             piece_bytes: s.piece_bytes,
             gaps: s.gaps,

@@ -20,6 +20,7 @@ pub(crate) const BUDGET_EXCEEDED: u32 = 11;
 pub(crate) const DRIVER_REFUSED: u32 = 12;
 pub(crate) const NO_SUCH_TYPE: u32 = 13;
 pub(crate) const NO_SUCH_HEAP: u32 = 15;
+pub(crate) const INVALID_TIER: u32 = 16;
 pub(crate) const AWAITS_BLOCK: u32 = 102;
 pub(crate) const TOO_MANY_FRAMES: u32 = 106;
 
@@ -223,6 +224,8 @@ pub(crate) struct MemoryStatistics {
 #[derive(Debug, Default)]
 pub(crate) struct MemoryBlockStatistics {
     pub(crate) exists: bool,
+    pub(crate) shared: bool,
+    pub(crate) size: u64,
     pub(crate) pieces: usize,
     pub(crate) piece_bytes: u64,
     pub(crate) gaps: usize,

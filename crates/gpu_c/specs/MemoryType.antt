@@ -3,8 +3,8 @@ use Rattle.std.specs.Prelude.{◌≡◌, ℕ, ◌+◌, ◌^◌, ◌<◌, ◌≤�
 use Rattle.std.specs.Option.{is_some, unwrap_or}
 use Rattle.std.specs.Int.NonZero.{non_zero_u64_get}
 use Rattle.gpu_values.specs.Sizes.{Sizes, only_size, with_largest}
-use Rattle.gpu_block.specs.Block.{HoldsPiece}
-use Rattle.gpu_block_pieces.specs.declared.pieces.BlockStatistics.{BlockStatistics}
+use Rattle.gpu_block.specs.Block.{Block, HoldsPiece, size_of, is_shared}
+use Rattle.gpu_block.specs.BlockViews.{statistics_of as counted_of}
 use Rattle.gpu_block_pieces.specs.Request.{Request, request}
 use Rattle.gpu_core.specs.TypeState.{Slot, TypeState, slot_at, capacity_of, shared_count, fits_budget, KeepsOneEmptyAtMost}
 use Rattle.gpu_core.specs.Slots.{AreSound}
@@ -222,7 +222,15 @@ statistics_of s = record {
   awaits_block = is_some s.awaited;
 }
 
--- what is counted of a block, or none
-abbrev pub block_counts : Option BlockStatistics → MemoryBlockStatistics
-block_counts None = record { exists = false; pieces = 0; piece_bytes = 0; gaps = 0; longest_gap = 0 }
-block_counts (Some b) = record { exists = true; pieces = b.pieces; piece_bytes = b.piece_bytes; gaps = b.gaps; longest_gap = b.longest_gap }
+-- a block's size, whether pieces share it, and what is counted of it; or that there is none
+abbrev pub block_counts : Option Block → MemoryBlockStatistics
+block_counts None = record { exists = false; shared = false; size = 0; pieces = 0; piece_bytes = 0; gaps = 0; longest_gap = 0 }
+block_counts (Some b) = record {
+  exists = true;
+  shared = is_shared b;
+  size = size_of b;
+  pieces = (counted_of b).pieces;
+  piece_bytes = (counted_of b).piece_bytes;
+  gaps = (counted_of b).gaps;
+  longest_gap = (counted_of b).longest_gap;
+}

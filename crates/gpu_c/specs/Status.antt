@@ -27,7 +27,7 @@ no_memory_type = 3
 abbrev pub invalid : ℕ
 invalid = 4
 
--- a device's page size is no power of two, or its resource heap tier is 0
+-- a device's page size is no power of two
 abbrev pub invalid_device : ℕ
 invalid_device = 5
 
@@ -70,6 +70,10 @@ too_many_types = 14
 -- a device's memory type lies in a heap that isn't there
 abbrev pub no_such_heap : ℕ
 no_such_heap = 15
+
+-- a device's resource heap tier is 0
+abbrev pub invalid_tier : ℕ
+invalid_tier = 16
 
 -- the handle is empty
 abbrev pub no_handle : ℕ

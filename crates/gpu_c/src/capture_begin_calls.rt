@@ -6,7 +6,7 @@ ghost use Rattle.gpu_c.specs.Capture.{BeginsWith, allocator_lines, heaps_sizes, 
 ghost use Rattle.gpu_c.specs.Heaps.{tier_named};
 ghost use Rattle.gpu_c.specs.Status as status;
 ghost use Rattle.gpu_c.specs.Status.{IsOneOf};
-ghost use Rattle.gpu_c.specs.declared.status.TheConstants.{OK, INVALID_DEVICE, HOST_OUT_OF_MEMORY, IN_USE};
+ghost use Rattle.gpu_c.specs.declared.status.TheConstants.{OK, INVALID_TIER, HOST_OUT_OF_MEMORY, IN_USE};
 
 use crate::allocator_values::{AllocatorSettings, DeviceHeap, DeviceMemoryType};
 use crate::capture_handle::CaptureHandle;
@@ -14,7 +14,7 @@ use crate::capture_request::{heaps_sizes, metal_heaps_sizes, of_allocator};
 use crate::heaps_request::tier_named;
 use crate::heaps_values::HeapsSettings;
 use crate::metal_heaps_values::MetalHeapsSettings;
-use crate::status::{HOST_OUT_OF_MEMORY, IN_USE, INVALID_DEVICE, OK};
+use crate::status::{HOST_OUT_OF_MEMORY, IN_USE, INVALID_TIER, OK};
 use gpu_capture::Capture;
 use std::alloc::Global;
 
@@ -62,7 +62,7 @@ pub extern "C" fn pilhangko_raw_capture_of_allocator(
 }
 
 /// Begins the capture of an allocator of DirectX 12's memory that is made with these settings. `IN_USE` where the handle isn't empty, else
-/// `INVALID_DEVICE` where the tier is 0, else `HOST_OUT_OF_MEMORY`.
+/// `INVALID_TIER` where the tier is 0, else `HOST_OUT_OF_MEMORY`.
 #[unsafe(no_mangle)]
 pub extern "C" fn pilhangko_raw_capture_of_heaps(
     capture: &mut CaptureHandle,
@@ -73,11 +73,11 @@ pub extern "C" fn pilhangko_raw_capture_of_heaps(
         × IsSomeAnd (tier_named settings.now.heap_tier) (λ tier. IsSomeAnd capture.new.value
         (BeginsWith (d3d12_lines tier (heaps_sizes settings.now)) 0)) }
     ensures in_use { (result ≡ status.in_use) ↔ (capture.old.value ≢ None) }
-    ensures invalid_device { (result ≡ status.invalid_device)
+    ensures invalid_tier { (result ≡ status.invalid_tier)
         ↔ (capture.old.value ≡ None) × (tier_named settings.now.heap_tier ≡ None) }
     ensures host_out_of_memory { result ≡ status.host_out_of_memory
         → (capture.old.value ≡ None) × IsSome (tier_named settings.now.heap_tier) }
-    ensures statuses { IsOneOf result (status.ok ∷ status.in_use ∷ status.invalid_device
+    ensures statuses { IsOneOf result (status.ok ∷ status.in_use ∷ status.invalid_tier
         ∷ status.host_out_of_memory ∷ []) }
     ensures refused { result ≢ status.ok → capture.new.value ≡ capture.old.value }
 {
@@ -86,7 +86,7 @@ pub extern "C" fn pilhangko_raw_capture_of_heaps(
         return IN_USE;
     }
     match tier_named(settings.heap_tier) {
-        None => INVALID_DEVICE,
+        None => INVALID_TIER,
         Some(tier) => {
             let fresh = Capture::of_d3d12(alloc, tier, heaps_sizes(settings));
             put(capture, alloc, fresh)

@@ -15,7 +15,7 @@ ghost use Rattle.gpu_c.specs.MemoryType.{number_if};
 ghost use Rattle.gpu_c.specs.Allocator.{budget_told};
 ghost use Rattle.gpu_c.specs.Heaps.{tier_named, IsFresh, AreNamed, IsAsked, IsBegun, IsDenied, IsGranted, IsDeclined, IsLive, IsFreed, IsRenamed, IsWorded, IsCommittedBegun, IsCommittedDenied, IsMade, IsNotMade, IsForgotten, HasNoRecord};
 ghost use Rattle.gpu_c.specs.HeapsMoves.{IsOfPiece, IsProposed};
-ghost use Rattle.gpu_c.specs.declared.status.TheConstants.{OK, OUT_OF_MEMORY, INVALID, INVALID_DEVICE, NOT_LIVE, HOST_OUT_OF_MEMORY, BUDGET_EXCEEDED, DRIVER_REFUSED, NO_SUCH_TYPE, NO_HANDLE, IN_USE, AWAITS_ANSWER, AWAITS_NO_ANSWER};
+ghost use Rattle.gpu_c.specs.declared.status.TheConstants.{OK, OUT_OF_MEMORY, INVALID, INVALID_TIER, NOT_LIVE, HOST_OUT_OF_MEMORY, BUDGET_EXCEEDED, DRIVER_REFUSED, NO_SUCH_TYPE, NO_HANDLE, IN_USE, AWAITS_ANSWER, AWAITS_NO_ANSWER};
 
 use crate::allocator_answer::budget_told;
 use crate::allocator_values::AllocatorBudget;
@@ -28,11 +28,11 @@ use crate::heaps_moves::propose_move;
 use crate::heaps_request::tier_named;
 use crate::heaps_values::{HeapsCommitted, HeapsPiece, HeapsProgress, HeapsRequest, HeapsSettings};
 use crate::memory_type_values::MemoryBlock;
-use crate::status::{HOST_OUT_OF_MEMORY, IN_USE, INVALID_DEVICE, NO_HANDLE, OK};
+use crate::status::{HOST_OUT_OF_MEMORY, IN_USE, INVALID_TIER, NO_HANDLE, OK};
 use std::alloc::Global;
 
 /// Makes an allocator of a device of that resource heap tier, without blocks and committed resources, in an empty handle. `IN_USE` where
-/// the handle isn't empty, else `INVALID_DEVICE` where the tier is 0, else `HOST_OUT_OF_MEMORY`.
+/// the handle isn't empty, else `INVALID_TIER` where the tier is 0, else `HOST_OUT_OF_MEMORY`.
 #[unsafe(no_mangle)]
 pub extern "C" fn pilhangko_raw_heaps_create(
     heaps: &mut HeapsHandle,
@@ -42,11 +42,11 @@ pub extern "C" fn pilhangko_raw_heaps_create(
     ensures created { result ≡ status.ok
         → (heaps.old.value ≡ None) × IsSomeAnd heaps.new.value (IsFresh settings.now) }
     ensures in_use { (result ≡ status.in_use) ↔ (heaps.old.value ≢ None) }
-    ensures invalid_device { (result ≡ status.invalid_device)
+    ensures invalid_tier { (result ≡ status.invalid_tier)
         ↔ (heaps.old.value ≡ None) × (tier_named settings.now.heap_tier ≡ None) }
     ensures host_out_of_memory { result ≡ status.host_out_of_memory
         → (heaps.old.value ≡ None) × IsSome (tier_named settings.now.heap_tier) }
-    ensures statuses { IsOneOf result (status.ok ∷ status.in_use ∷ status.invalid_device
+    ensures statuses { IsOneOf result (status.ok ∷ status.in_use ∷ status.invalid_tier
         ∷ status.host_out_of_memory ∷ []) }
     ensures refused { result ≢ status.ok → heaps.new.value ≡ heaps.old.value }
 {
@@ -55,7 +55,7 @@ pub extern "C" fn pilhangko_raw_heaps_create(
         return IN_USE;
     }
     match tier_named(settings.heap_tier) {
-        None => INVALID_DEVICE,
+        None => INVALID_TIER,
         Some(tier) => match fresh(alloc, tier, settings) {
             None => HOST_OUT_OF_MEMORY,
             Some(machine) => match Box::new(alloc, machine) {

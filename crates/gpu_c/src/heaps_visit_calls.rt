@@ -2,7 +2,7 @@
 
 ghost use Rattle.std.specs.Prelude.{◌≡◌, ◌≢◌, ◌≤◌, ◌↔◌, [], ◌∷◌, Some, None, IsSome, IsSomeAnd, length};
 ghost use Rattle.std.specs.List.{slice_get};
-ghost use Rattle.gpu_core.specs.TypeReport.{pieces_in, statistics_in};
+ghost use Rattle.gpu_core.specs.TypeReport.{pieces_in, block_in};
 ghost use Rattle.gpu_core.specs.TypeState.{slot_at, capacity_of, block_number};
 ghost use Rattle.gpu_core.specs.Blocks.{slots_at};
 ghost use Rattle.gpu_core.specs.Leaks.{all_leaks};
@@ -179,7 +179,7 @@ pub extern "C" fn pilhangko_raw_heaps_block_statistics(
     ensures reported { result ≡ status.ok
         → IsSomeAnd heaps.old.value
         (λ s. statistics.new ≡ block_counts
-        (statistics_in (slot_at (slots_at s.requests.slots index) slot))) }
+        (block_in (slot_at (slots_at s.requests.slots index) slot))) }
     ensures no_handle { (result ≡ status.no_handle) ↔ (heaps.old.value ≡ None) }
     ensures statuses { IsOneOf result (status.ok ∷ status.no_handle ∷ []) }
     ensures same { heaps.new.value ≡ heaps.old.value }

@@ -2,8 +2,10 @@
 
 ghost use Rattle.std.specs.Prelude.{◌≡◌, ◌≢◌, ◌<◌, ◌≤◌, ◌+◌, ◌^◌, ◌↔◌, [], ◌∷◌, Some, None, true, false, IsSome, IsTrue, IsUtf8, MatchOption};
 ghost use Rattle.std.specs.Int.{is_power_of_two};
+ghost use Rattle.std.specs.Option.{option_map};
+ghost use Rattle.gpu_block.specs.SubAllocator.{block_of};
 ghost use Rattle.gpu_core.specs.TypeState.{slot_at, capacity_of, block_number, fits_budget};
-ghost use Rattle.gpu_core.specs.TypeReport.{pieces_in, statistics_in};
+ghost use Rattle.gpu_core.specs.TypeReport.{pieces_in, block_in};
 ghost use Rattle.gpu_c.specs.Status as status;
 ghost use Rattle.gpu_c.specs.Request.{IsRequestServed};
 ghost use Rattle.gpu_c.specs.Status.{IsOneOf};
@@ -22,7 +24,7 @@ use crate::status::{
 };
 use crate::virtual_block_values::PieceView;
 use crate::visit::{fill_from, first_from, name_from, names_from, no_piece};
-use gpu_block_pieces::BlockStatistics;
+use gpu_block::SubAllocator;
 use gpu_core::{MemoryType, NeedBlock, Piece, Prepared, Request};
 use gpu_values::AllocationSizes;
 use std::alloc::Global;
@@ -356,9 +358,9 @@ impl AwaitingType {
 
     /// What is counted of the block in a slot.
     pub fn block_statistics(&self, slot: usize) -> MemoryBlockStatistics
-        ensures { result ≡ block_counts (statistics_in (slot_at self.now.slots slot)) }
+        ensures { result ≡ block_counts (block_in (slot_at self.now.slots slot)) }
     {
-        block_counts(self.memory_type.statistics(slot))
+        block_counts(self.memory_type.sub_allocator(slot))
     }
 
     /// The first piece of the block in a slot whose own bytes begin at `from` or behind it.
@@ -429,25 +431,30 @@ impl AwaitingType {
     }
 }
 
-/// What is counted of a block, or none.
-pub fn block_counts(counted: Option<BlockStatistics>) -> MemoryBlockStatistics
-    ensures { result ≡ block_counts counted }
+/// The size of a block, whether pieces share it, and what is counted of it; or that there is none.
+pub fn block_counts(block: Option<&SubAllocator>) -> MemoryBlockStatistics
+    ensures { result ≡ block_counts (option_map (λ b. block_of b.now) block) }
 {
-    match counted {
-        None => MemoryBlockStatistics {
+    let Some(block) = block else {
+        return MemoryBlockStatistics {
             exists: false,
+            shared: false,
+            size: 0,
             pieces: 0,
             piece_bytes: 0,
             gaps: 0,
             longest_gap: 0,
-        },
-        Some(counted) => MemoryBlockStatistics {
-            exists: true,
-            pieces: counted.pieces,
-            piece_bytes: counted.piece_bytes,
-            gaps: counted.gaps,
-            longest_gap: counted.longest_gap,
-        },
+        };
+    };
+    let counted = block.statistics();
+    MemoryBlockStatistics {
+        exists: true,
+        shared: block.supports_general_allocations(),
+        size: block.size(),
+        pieces: counted.pieces,
+        piece_bytes: counted.piece_bytes,
+        gaps: counted.gaps,
+        longest_gap: counted.longest_gap,
     }
 }
 

@@ -5,7 +5,7 @@
 ghost use Rattle.std.specs.Prelude.{◌≡◌, ◌≢◌, ◌↔◌, [], ◌∷◌, Some, None, IsSome, IsSomeAnd, IsTrue, IsUtf8};
 ghost use Rattle.std.specs.Int.{is_power_of_two};
 ghost use Rattle.gpu_core.specs.TypeState.{slot_at, block_number};
-ghost use Rattle.gpu_core.specs.TypeReport.{pieces_in, statistics_in};
+ghost use Rattle.gpu_core.specs.TypeReport.{pieces_in, block_in};
 ghost use Rattle.gpu_c.specs.Handle.{Changes};
 ghost use Rattle.gpu_c.specs.Status as status;
 ghost use Rattle.gpu_c.specs.Request.{IsRequestServed};
@@ -342,7 +342,7 @@ pub extern "C" fn pilhangko_raw_memory_type_block_statistics(
 ) -> u32
     ensures reported { result ≡ status.ok
         → IsSomeAnd memory_type.old.value
-        (λ t. statistics.new ≡ block_counts (statistics_in (slot_at t.slots slot))) }
+        (λ t. statistics.new ≡ block_counts (block_in (slot_at t.slots slot))) }
     ensures no_handle { (result ≡ status.no_handle) ↔ (memory_type.old.value ≡ None) }
     ensures statuses { IsOneOf result (status.ok ∷ status.no_handle ∷ []) }
     ensures same { memory_type.new.value ≡ memory_type.old.value }

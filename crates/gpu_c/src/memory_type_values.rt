@@ -95,12 +95,16 @@ pub struct MemoryStatistics {
     pub awaits_block: bool,
 }
 
-/// What is counted of the block in a slot, or none.
+/// The size of the block in a slot, and what is counted of it; or that there is none.
 #[repr(C)]
 #[derive(Drop)]
 pub struct MemoryBlockStatistics {
     /// Whether there is a block; else all is 0.
     pub exists: bool,
+    /// Whether pieces share it; else it is one piece's own.
+    pub shared: bool,
+    /// Its size in bytes.
+    pub size: u64,
     /// How many of its pieces are live.
     pub pieces: usize,
     /// The bytes that they take, with the padding before them.

@@ -1,4 +1,4 @@
-//! What the calls return. 1 to 11 are the library's errors E1 to E11, 12 and 13 two causes of E6, 14 and 15 of E5; from 100 on a handle is in the wrong state.
+//! What the calls return. 1 to 11 are the library's errors E1 to E11, 12 and 13 two causes of E6, 14 to 16 of E5; from 100 on a handle is in the wrong state.
 
 ghost use Rattle.std.specs.Prelude.{◌≡◌};
 ghost use Rattle.gpu_c.specs.Status.{status_of};
@@ -20,7 +20,7 @@ pub const NO_MEMORY_TYPE: u32 = 3;
 /// A size of 0, an alignment or a page size that isn't a power of two, an unknown kind, or a name that isn't UTF-8.
 pub const INVALID: u32 = 4;
 
-/// The page size of a device isn't a power of two, or its resource heap tier is 0.
+/// The page size of a device isn't a power of two.
 pub const INVALID_DEVICE: u32 = 5;
 
 /// No live piece, or no record of a committed resource, is the one that was named.
@@ -52,6 +52,9 @@ pub const TOO_MANY_TYPES: u32 = 14;
 
 /// A memory type of a device lies in a heap that isn't there.
 pub const NO_SUCH_HEAP: u32 = 15;
+
+/// The resource heap tier of a device is 0.
+pub const INVALID_TIER: u32 = 16;
 
 /// The handle is empty.
 pub const NO_HANDLE: u32 = 100;

@@ -5,7 +5,7 @@ ghost use Rattle.std.specs.Prelude.{◌≡◌, ◌≢◌, ◌≤◌, ◌↔◌, 
 ghost use Rattle.std.specs.Option.{option_map, unwrap_or};
 ghost use Rattle.std.specs.List.{slice_get};
 ghost use Rattle.gpu_block_pieces.specs.Leak.{leak_text};
-ghost use Rattle.gpu_core.specs.TypeReport.{pieces_in, statistics_in};
+ghost use Rattle.gpu_core.specs.TypeReport.{pieces_in, block_in};
 ghost use Rattle.gpu_core.specs.TypeState.{slot_at, capacity_of};
 ghost use Rattle.gpu_core.specs.Types.{slots_of};
 ghost use Rattle.gpu_core.specs.Blocks.{slots_at};
@@ -93,13 +93,13 @@ pub fn block_statistics<H: Copy + Eq>(
     index: usize,
     slot: usize,
 ) -> MemoryBlockStatistics
-    ensures { result ≡ block_counts (statistics_in
+    ensures { result ≡ block_counts (block_in
         (slot_at (slots_at (slots_of types.now) index) slot)) }
 {
     let Some(found) = type_at(types, index) else {
         return block_counts(None);
     };
-    block_counts(found.statistics(slot))
+    block_counts(found.sub_allocator(slot))
 }
 
 /// Fills an array with the pieces of the block in a slot of a memory type whose own bytes begin at `from` or behind it, as far as it has

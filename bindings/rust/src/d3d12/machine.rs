@@ -93,7 +93,7 @@ impl Machine {
         let handle = Handle::empty();
         // SAFETY: the handle is empty and this call's alone, and the settings outlive the call.
         match unsafe { raw::pilhangko_raw_heaps_create(handle.as_ptr(), settings) } {
-            raw::INVALID_DEVICE => {
+            raw::INVALID_TIER => {
                 let text = "the resource heap tier is 0.";
                 Err(AllocationError::InvalidAllocatorCreateDesc(Fault { text, code: None }))
             }
