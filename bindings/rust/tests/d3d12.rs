@@ -495,6 +495,27 @@ fn reports_and_leaks_name_what_is_live() {
     assert!(Level::Warn > Level::Error);
 }
 
+fn panics(call: impl FnOnce()) -> bool {
+    std::panic::catch_unwind(std::panic::AssertUnwindSafe(call)).is_err()
+}
+
+#[test]
+fn heaps_go_back_where_the_logger_panics() {
+    let device = FakeDevice::new(2, 0);
+    let mut desc = small_blocks(&device);
+    desc.logger = Some(Logger::new(|_, line| panic!("no line is wanted: {line}")));
+    desc.debug_settings.log_frees = true;
+    let mut allocator = Allocator::new(&desc).unwrap();
+    drop(desc);
+    let (own, leak) = (allocator.allocate(&bytes(9 * MB, 4)).unwrap(), allocator.allocate(&bytes(100, 4)).unwrap());
+    assert_eq!(allocator.capacity(), 9 * MB + 4 * MB);
+    assert!(panics(|| allocator.free(own).unwrap()));
+    assert_eq!(allocator.capacity(), 4 * MB);
+    assert!(panics(|| drop(allocator)));
+    drop(leak);
+    device.assert_left_empty();
+}
+
 #[test]
 fn allocators_and_what_they_give_go_from_thread_to_thread() {
     fn goes<T: Send>() {}
