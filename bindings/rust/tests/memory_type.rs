@@ -60,7 +60,8 @@ fn blocks_come_and_go() {
     let counted = MemoryStatistics { capacity: 20 * MB + 11, slots: 4, shared_blocks: 2, budget: None };
     assert_eq!(it.statistics(), counted);
     assert_eq!(it.blocks().collect::<Vec<_>>(), [(0, 1001), (1, 1002), (2, 1003), (3, 1004)]);
-    let of_first = BlockStatistics { size: 4 * MB, shared: true, pieces: 2, piece_bytes: 150, gaps: 1, longest_gap: 4 * MB - 150 };
+    let of_first =
+        BlockStatistics { size: 4 * MB, shared: true, pieces: 2, piece_bytes: 150, gaps: 1, longest_gap: 4 * MB - 150 };
     assert_eq!(it.block_statistics(0), Some(of_first));
     assert_eq!((it.block_statistics(4), it.block(4), it.next_piece(4, 0)), (None, None, None));
     it.set_word(&b, 7).unwrap();

@@ -977,7 +977,8 @@ fn what_is_counted_and_shown_of_memory_types_and_blocks() {
     };
     assert_eq!(a.type_statistics(0), Some(counted));
     assert_eq!((a.type_statistics(1), a.type_statistics(3)), (Some(TypeStatistics::default()), None));
-    let of_block = BlockStatistics { size: 8 * MB, shared: true, pieces: 2, piece_bytes: 164, gaps: 1, longest_gap: 8 * MB - 164 };
+    let of_block =
+        BlockStatistics { size: 8 * MB, shared: true, pieces: 2, piece_bytes: 164, gaps: 1, longest_gap: 8 * MB - 164 };
     assert_eq!(
         (a.block_statistics(0, 0), a.block_statistics(0, 1), a.block_statistics(9, 0)),
         (Some(of_block), None, None)

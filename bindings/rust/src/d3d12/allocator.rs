@@ -2,8 +2,8 @@
 
 use super::abi::{ClearValue, HeapProperties, ResourceDesc};
 use super::allocation::{Allocation, Memory, Resource};
+use super::allocator_handle::{choose_call, heap_of, raw_settings, AllocatorHandle, Progress};
 use super::device::{heap_size, ID3D12DeviceVersion, Place, Wanted};
-use super::machine::{choose_call, heap_of, raw_settings, Machine, Progress};
 use super::Interface;
 use crate::capture::{Answers, Capture};
 use crate::error::{check, copied, out_of_host_memory};
@@ -147,7 +147,7 @@ pub struct CommittedAllocationStatistics {
 /// An allocator of a device's heaps. It may go from thread to thread, and serves one call at a time (`Mutex<Allocator>`). Dropping it releases
 /// its heaps and logs the allocations that are live still: these, and resources, hold their heaps as long as they live.
 pub struct Allocator {
-    pub(super) machine: Machine,
+    pub(super) machine: AllocatorHandle,
     device: ID3D12DeviceVersion,
     owner: u64,
     /// The number of the allocation or committed resource that was made last.
@@ -163,7 +163,7 @@ impl Allocator {
     pub fn new(desc: &AllocatorCreateDesc) -> Result<Self> {
         let settings = raw_settings(desc.device.heap_tier()?, &desc.allocation_sizes);
         Ok(Allocator {
-            machine: Machine::new(&settings)?,
+            machine: AllocatorHandle::new(&settings)?,
             device: desc.device.clone(),
             owner: next_owner(),
             last_number: 0,

@@ -1,8 +1,8 @@
 //! What a capture has of the DirectX 12 allocator's calls.
 
 use super::allocator::{AllocationCreateDesc, Allocator};
+use super::allocator_handle::raw_request;
 use super::device::Made;
-use super::machine::raw_request;
 use crate::capture::{has_line, Answers, Capture, RecordRequest};
 use crate::raw::{self, HeapsRequest, HeapsSettings};
 use crate::Result;

@@ -34,11 +34,11 @@
 mod abi;
 mod allocation;
 mod allocator;
+mod allocator_handle;
 mod capture;
 mod defragmentation;
 mod device;
 mod interface;
-mod machine;
 
 pub use crate::capture::{Capture, CaptureEnd};
 pub use crate::defragmentation::{DefragmentationStatistics, MoveKey};

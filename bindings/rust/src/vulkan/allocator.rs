@@ -2,10 +2,10 @@
 
 use super::abi::{Buffer, Image, MemoryRequirements};
 use super::allocation::{Allocation, AllocationBlock, Held};
+use super::allocator_handle::{AllocatorHandle, Progress, Question};
 use super::answer::{Answer, Refusal};
 use super::budgets::Bounds;
 use super::device::{Device, Purpose};
-use super::machine::{Machine, Progress, Question};
 use super::options::{AllocationOptions, Chain};
 use super::pool::{lock, Common, PoolCreateDesc};
 use super::visit::LiveBlock;
@@ -88,7 +88,7 @@ pub(crate) fn next_owner() -> u64 {
 /// An allocator of a device's memory. It may go from thread to thread, and serves one call at a time (`Mutex<Allocator>`). Dropping it
 /// gives all blocks back to the driver and logs the allocations that are live still.
 pub struct Allocator {
-    pub(super) machine: Machine,
+    pub(super) machine: AllocatorHandle,
     owner: u64,
     pub(super) requests: u64,
     device_address: bool,
@@ -109,7 +109,7 @@ impl Allocator {
         let AllocatorCreateDesc { device, allocation_sizes, .. } = desc;
         device.check()?;
         let mut allocator = Allocator {
-            machine: Machine::new(device, allocation_sizes)?,
+            machine: AllocatorHandle::new(device, allocation_sizes)?,
             owner: next_owner(),
             requests: 0,
             device_address: desc.buffer_device_address,
@@ -124,7 +124,7 @@ impl Allocator {
     }
 
     /// The pool over a machine that was made for it.
-    pub(super) fn apart(&self, desc: &PoolCreateDesc, machine: Machine) -> Result<Self> {
+    pub(super) fn apart(&self, desc: &PoolCreateDesc, machine: AllocatorHandle) -> Result<Self> {
         let capture = desc.capture.then(|| Capture::of_allocator(self.device(), &desc.allocation_sizes)).transpose()?;
         Ok(Allocator {
             machine,

@@ -1,7 +1,7 @@
 //! What a capture has of the Vulkan allocator's calls.
 
+use super::allocator_handle::{raw_request, raw_settings};
 use super::answer::Answer;
-use super::machine::{raw_request, raw_settings};
 use super::{AllocationCreateDesc, Device};
 use crate::capture::{Answers, Capture};
 use crate::{raw, AllocationSizes, Result};

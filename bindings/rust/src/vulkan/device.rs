@@ -5,9 +5,9 @@ use super::abi::{
     MemoryDedicatedAllocateInfo, MemoryHeap, MemoryPropertyFlags, MemoryRequirements, MemoryType,
     PhysicalDeviceMemoryProperties, SUCCESS, WHOLE_SIZE,
 };
+use super::allocator_handle::Question;
 use super::answer::{Address, Answer, Memory, Refusal};
 use super::budgets::BudgetSource;
-use super::machine::Question;
 use super::options::Chain;
 use super::resource_abi::{GetPhysicalDeviceMemoryProperties2, ResourceFunctions};
 use super::AllocationScheme;

@@ -34,13 +34,13 @@
 mod abi;
 mod allocation;
 mod allocator;
+mod allocator_handle;
 mod answer;
 mod budgets;
 mod capture;
 mod defragmentation;
 mod device;
 mod flushing;
-mod machine;
 mod options;
 mod pool;
 mod reading;
@@ -57,7 +57,7 @@ pub use abi::{
     MemoryRequirements, MemoryType, PhysicalDeviceMemoryProperties, SyncMappedMemoryRanges, UnmapMemory, VoidFunction,
 };
 pub(crate) use allocator::next_owner;
-pub(crate) use machine::location_number;
+pub(crate) use allocator_handle::location_number;
 
 pub use crate::capture::{Capture, CaptureEnd};
 pub use crate::defragmentation::{DefragmentationStatistics, MoveKey};

@@ -2,8 +2,8 @@
 
 use super::abi::MemoryDedicatedAllocateInfo;
 use super::allocator::Allocator;
+use super::allocator_handle::AllocatorHandle;
 use super::device::Device;
-use super::machine::Machine;
 use super::options::Chain;
 use crate::error::invalid_device;
 use crate::{AllocationSizes, Result};
@@ -145,7 +145,7 @@ pub(super) fn lock(common: &Mutex<Common>) -> MutexGuard<'_, Common> {
     common.lock().unwrap_or_else(PoisonError::into_inner)
 }
 
-impl Machine {
+impl AllocatorHandle {
     /// Bounds it by what the others leave, where that has changed.
     pub(super) fn follow(&mut self, common: &Common) {
         if !self.share.is_stale(common) {

@@ -1,7 +1,7 @@
 //! What is read of an allocator: what is counted, its report, and its live pieces as leaks.
 
 use super::allocator::Allocator;
-use super::machine::Machine;
+use super::allocator_handle::AllocatorHandle;
 use super::visit::LiveBlock;
 use crate::error::out_of_host_memory;
 use crate::memory_type::BlockStatistics;
@@ -68,7 +68,7 @@ impl Allocator {
 }
 
 /// Hands each live piece to `tell`, as a leak, by memory type, slot and offset.
-fn leaks(machine: &Machine, mut tell: impl FnMut(Leak<'_>)) -> Result<()> {
+fn leaks(machine: &AllocatorHandle, mut tell: impl FnMut(Leak<'_>)) -> Result<()> {
     for LiveBlock { memory_type, slot, is_shared, .. } in machine.blocks() {
         for NamedPiece { view, name } in &machine.block_at(memory_type, slot).named()? {
             tell(Leak { memory_type, slot, is_shared, view, name });

@@ -1,7 +1,7 @@
 //! What is read of the proved allocator: its blocks, what is counted of them, and its report.
 
+use super::allocator_handle::{location_number, memory_of, AllocatorHandle};
 use super::answer::Memory;
-use super::machine::{location_number, memory_of, Machine};
 use crate::error::{check, check_unrefused};
 use crate::memory_type::BlockStatistics;
 use crate::pieces::Visited;
@@ -19,7 +19,7 @@ pub(super) struct LiveBlock {
     pub(super) is_shared: bool,
 }
 
-impl Machine {
+impl AllocatorHandle {
     /// The memory type at which a request with these bits begins.
     pub(super) fn best_type(&self, memory_type_bits: u32, location: MemoryLocation) -> Option<usize> {
         let (number, mut index) = (location_number(location), 0);
@@ -82,7 +82,7 @@ impl Machine {
 }
 
 #[cfg(test)]
-impl Machine {
+impl AllocatorHandle {
     /// The library's own text of a live piece as a leak, by its index; empty past the last one.
     pub(super) fn leak(&self, index: usize) -> String {
         let mut text = vec![0; 1 << 10];
@@ -99,7 +99,7 @@ impl Machine {
 /// A block of an allocator, as a visit sees it; there may be none.
 #[derive(Clone, Copy, Debug)]
 pub(super) struct BlockAt<'a> {
-    machine: &'a Machine,
+    machine: &'a AllocatorHandle,
     memory_type: usize,
     slot: usize,
 }

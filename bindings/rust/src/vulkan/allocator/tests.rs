@@ -47,7 +47,7 @@ fn many_blocks_are_as_quick_as_the_library() {
         allocation_scheme: AllocationScheme::DedicatedBuffer(Buffer(1)),
     };
     let begin = Instant::now();
-    let mut machine = Machine::new(&driver.device(), &AllocationSizes::default()).unwrap();
+    let mut machine = AllocatorHandle::new(&driver.device(), &AllocationSizes::default()).unwrap();
     let common = machine.share.common();
     let mut common = lock(&common);
     for number in 1..=20_000 {

@@ -88,7 +88,7 @@ pub(super) fn raw_request(desc: &AllocationCreateDesc<'_>) -> raw::AllocatorRequ
 
 /// The allocator behind its handle, and the device that its blocks go back to: dropping it gives them all back, whatever else fails.
 #[derive(Debug)]
-pub(super) struct Machine {
+pub(super) struct AllocatorHandle {
     pub(super) handle: Handle,
     device: Device,
     blocks: usize,
@@ -97,15 +97,15 @@ pub(super) struct Machine {
     pub(super) share: Share,
 }
 
-impl Machine {
+impl AllocatorHandle {
     /// An allocator without blocks over a device whose properties make sense.
     pub(super) fn new(device: &Device, sizes: &AllocationSizes) -> Result<Self> {
-        Machine::over(device, sizes, Share::new())
+        AllocatorHandle::over(device, sizes, Share::new())
     }
 
     /// Another one without blocks, within the same bounds.
     pub(super) fn apart(&self, sizes: &AllocationSizes, most_blocks: Option<usize>) -> Result<Self> {
-        Machine::over(&self.device, sizes, self.share.another(most_blocks))
+        AllocatorHandle::over(&self.device, sizes, self.share.another(most_blocks))
     }
 
     fn over(device: &Device, sizes: &AllocationSizes, share: Share) -> Result<Self> {
@@ -122,7 +122,7 @@ impl Machine {
                 &raw_settings(device, sizes),
             )
         })?;
-        Ok(Machine { handle, device: device.clone(), blocks: 0, changes: 0, share })
+        Ok(AllocatorHandle { handle, device: device.clone(), blocks: 0, changes: 0, share })
     }
 
     /// The device.
@@ -325,7 +325,7 @@ impl Machine {
     }
 }
 
-impl Drop for Machine {
+impl Drop for AllocatorHandle {
     fn drop(&mut self) {
         let common = self.share.common();
         let mut common = lock(&common);

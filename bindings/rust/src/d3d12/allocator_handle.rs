@@ -81,13 +81,13 @@ fn heap_back(heap: u64) -> Option<Interface> {
 
 /// The allocator behind its handle. It holds a reference to each heap: dropping it releases them all, whatever else fails.
 #[derive(Debug)]
-pub(super) struct Machine {
+pub(super) struct AllocatorHandle {
     handle: Handle,
     /// How often a budget was set, by which bounds of memory types may be others.
     pub(super) changes: u64,
 }
 
-impl Machine {
+impl AllocatorHandle {
     /// An allocator without blocks.
     pub(super) fn new(settings: &raw::HeapsSettings) -> Result<Self> {
         let handle = Handle::empty();
@@ -97,7 +97,7 @@ impl Machine {
                 let text = "the resource heap tier is 0.";
                 Err(AllocationError::InvalidAllocatorCreateDesc(Fault { text, code: None }))
             }
-            status => check(status).map(|()| Machine { handle, changes: 0 }),
+            status => check(status).map(|()| AllocatorHandle { handle, changes: 0 }),
         }
     }
 
@@ -238,7 +238,7 @@ impl Machine {
 }
 
 /// What is read of it.
-impl Machine {
+impl AllocatorHandle {
     /// The budget of a memory type, if it has one.
     pub(super) fn budget(&self, memory_type: usize) -> Option<u64> {
         let mut budget = raw::Budget::default();
@@ -304,7 +304,7 @@ impl Machine {
 /// A block of an allocator, as a visit sees it; there may be none.
 #[derive(Clone, Copy, Debug)]
 pub(super) struct BlockAt<'a> {
-    machine: &'a Machine,
+    machine: &'a AllocatorHandle,
     memory_type: usize,
     slot: usize,
 }
@@ -366,7 +366,7 @@ impl Visited for BlockAt<'_> {
     }
 }
 
-impl Drop for Machine {
+impl Drop for AllocatorHandle {
     fn drop(&mut self) {
         self.blocks().for_each(|(heap, _)| drop(heap_back(heap)));
         // SAFETY: the handle is this machine's alone, and isn't used again.
