@@ -651,6 +651,24 @@ static void captures_by_hand(void) {
     is_written(DEVICE_LINES "new\ndestroy\n");
 }
 
+/* A budget stands where it changed and counts: before the next request that finds one, and at the end. */
+static void captured_budgets(void) {
+    pilhangko_metal metal = captured(sizeof written.bytes);
+    const pilhangko_metal_request r = asks(10, PILHANGKO_LOCATION_GPU_ONLY);
+    pilhangko_metal_allocation a;
+    for (unsigned frame = 0; frame < 100000; frame++) {
+        IS(pilhangko_metal_set_budget(&metal, 0, true, (64 * MB) + (frame < 100 ? frame : 100)), PILHANGKO_OK);
+        IS(pilhangko_metal_set_budget(&metal, 1, true, 9 * MB), PILHANGKO_OK);
+    }
+    a = allocates(&metal, &r);
+    IS(pilhangko_metal_set_budget(&metal, 0, true, 100 * MB), PILHANGKO_OK); /* there and back */
+    IS(pilhangko_metal_set_budget(&metal, 0, true, 64 * MB + 100), PILHANGKO_OK);
+    IS(pilhangko_metal_set_budget(&metal, 1, false, 0), PILHANGKO_OK);
+    IS(pilhangko_metal_free(&metal, &a), PILHANGKO_OK);
+    IS(pilhangko_metal_destroy(&metal, NULL), PILHANGKO_OK);
+    is_written(DEVICE_LINES "new\nbudget 0 67108964\nbudget 1 9437184\nalloc 1 10 256 GpuOnly row\nfree 1\nbudget 1 none\ndestroy\n");
+}
+
 static void too_long_captures(void) {
     static const char remark[] = "# the capture ends here: the next call would make the trace too long\n";
     pilhangko_metal metal = captured(sizeof written.bytes);
@@ -697,6 +715,7 @@ int main(void) {
     each_host_request_refused();
     threads();
     captures_by_hand();
+    captured_budgets();
     too_long_captures();
     unwritten_captures();
     [device release];
