@@ -433,7 +433,7 @@ impl AwaitingType {
 
 /// The size of a block, whether pieces share it, and what is counted of it; or that there is none.
 pub fn block_counts(block: Option<&SubAllocator>) -> MemoryBlockStatistics
-    ensures { result ≡ block_counts (option_map (λ b. block_of b.now) block) }
+    ensures { result ≡ block_counts (option_map (λ b. block_of b.now) block.entry) }
 {
     let Some(block) = block else {
         return MemoryBlockStatistics {
