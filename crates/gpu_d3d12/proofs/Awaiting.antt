@@ -1,5 +1,5 @@
 -- Committed resources for a caller that asks the device itself: one memory type's change, and the record that is awaited.
-use Rattle.std.proofs.Common.{◌≡◌, ◌∙◌, refl, sym, ap, subst, ℕ, ◌+◌, ◌^◌, ◌<◌, List, [], ◌∷◌, ◌++◌, length, map, slice_get, slice_set, slice_index_or, Option, Some, None, Result, Ok, Err, Bool, true, false, cond, OnOk, OnErr, IfErr, ◌≤◌, ⊎_elim, arith}
+use Rattle.std.proofs.Common.{◌≡◌, ◌∙◌, refl, sym, ap, subst, ℕ, ◌<◌, List, [], ◌∷◌, ◌++◌, length, map, slice_get, slice_set, slice_index_or, Option, Some, None, Result, Ok, Err, Bool, true, false, cond, OnOk, OnErr, IfErr, ◌≤◌, ⊎_elim, arith}
 use Rattle.std.specs.Prelude.{Vec, IsSomeAnd, vec_capacity}
 use Rattle.std.specs.Global.{Global}
 use Rattle.std.specs.Option.{option_map}
@@ -7,16 +7,15 @@ use Rattle.std.specs.List.{remove}
 use Rattle.std.proofs.lemmas.Bool.{cases_lt}
 use Rattle.std.proofs.lemmas.List.{length-map, length-set, get_or-set_same, set-get_or}
 use Rattle.std.proofs.lemmas.Option.{slice_get-map, slice_get_read, slice_get_past}
-use Rattle.gpu_core.proofs.Options.{none_some, some_same}
 use Rattle.gpu_values.specs.Refusal.{refusal_of, out_of_memory, host_out_of_memory}
 use Rattle.gpu_values.specs.declared.error.AllocationError.{AllocationError}
-use Rattle.gpu_d3d12.specs.Committed.{records_at, total_size, fits, freed, place_of}
+use Rattle.gpu_d3d12.specs.Committed.{records_at, fits, freed, place_of}
 use Rattle.gpu_d3d12.specs.CommittedRequests.{RecordState, HasPlace, HasRoom, BeginsBy, BeginsIn, Begins, Makes, record_of, ForgetsIn, Forgets}
 use Rattle.gpu_d3d12.specs.declared.committed_record.CommittedRecord.{CommittedRecord}
 use Rattle.gpu_d3d12.specs.declared.committed_requests.AwaitedResource.{AwaitedResource}
 use Rattle.gpu_d3d12.specs.declared.committed_requests.Committed.{Committed}
 use Rattle.gpu_device.specs.declared.d3d12.types.ID3D12Resource.{ID3D12Resource}
-use Rattle.gpu_d3d12.proofs.Records.{Rows, lists, row_there, row_set, lent_gives}
+use Rattle.gpu_d3d12.proofs.Records.{Rows, lists, row_there, row_set, releases_at}
 
 abbrev Row : Type 0
 Row = Vec CommittedRecord Global
@@ -123,7 +122,7 @@ module _ (rows : Rows) (c : Committed) (v w : Row) (old : RecordState) (view : s
   forgets_in : (result : Result (Unit {0}) AllocationError) → OnOk result ((place : ℕ) × (place_of v.items (record_of c) ≡ Some place) × (w.items ≡ remove v.items place))
       → OnErr result (place_of v.items (record_of c) ≡ None) → IfErr result (λ e. refusal_of e ≡ freed) → OnErr result (w.items ≡ v.items) → ForgetsIn None old c result new
   forgets_in (Ok u) gives dead cause refused = (
-    (let ok : Result (Unit {0}) AllocationError = Ok u in lent_gives rows i old.records v w (record_of c) ok (Unit {0}) was (ap (λ (s : RecordState). s.records) view) gives tt).0,
+    releases_at rows i old.records v w (record_of c) was (ap (λ (s : RecordState). s.records) view) gives,
     λ j. record { records = lists (slice_set rows i w); awaited = sym shut j },
   )
   forgets_in (Err e) gives dead cause refused = (

@@ -6,11 +6,11 @@ ghost use Rattle.gpu_values.specs.Refusal.{refusal_of, out_of_memory, host_out_o
 ghost use Rattle.gpu_d3d12.specs.Committed.{total_size, fits, place_of, freed, statistics_at};
 ghost use Rattle.gpu_d3d12.specs.CommittedRequests.{HasPlace, Begins, Makes, Declines, Forgets};
 
-use crate::committed::{not_committed, place_of, statistics_of, total_size};
+use crate::committed_record::{place_of, statistics_of, total_size};
 use crate::{CommittedAllocationStatistics, CommittedRecord};
 use gpu_device::d3d12::ID3D12Resource;
 use gpu_pool::{answer_awaited, no_answer_awaited};
-use gpu_values::{AllocationError, Result};
+use gpu_values::{AllocationError, Result, internal_fault};
 use std::alloc::{AllocError, Global};
 use std::marker::Model;
 
@@ -32,6 +32,13 @@ pub struct Committed {
     pub resource: ID3D12Resource,
     /// Its size in bytes, as the device told it.
     pub size: u64,
+}
+
+/// Why a committed resource can't be forgotten.
+fn not_committed() -> AllocationError
+    ensures { refusal_of result ≡ freed }
+{
+    internal_fault("Resource was already freed.")
 }
 
 /// Makes room for one more record of this size in bytes. `OutOfMemory` where that would carry the sum past `u64::MAX`, else

@@ -11,7 +11,7 @@ ghost use Rattle.gpu_d3d12.specs.Resource.{IsBeside};
 
 use crate::logging::log_free;
 use crate::source::D3D12Blocks;
-use crate::{Allocation, CommittedRecord, CommittedResources, Resource};
+use crate::{Allocation, Committed, CommittedResources, Resource};
 use gpu_device::d3d12::{D3D12Device, ID3D12Resource};
 use gpu_pool::Pool;
 use gpu_values::{AllocatorDebugSettings, Result};
@@ -63,11 +63,12 @@ pub fn free_resource<D: D3D12Device, L: Log>(
     match &resource.allocation {
         Some(allocation) => free_placed(log, debug, pool, resource.resource, allocation),
         None => {
-            let made = CommittedRecord {
+            let made = Committed {
+                memory_type: resource.memory_type_index,
                 resource: resource.resource,
                 size: resource.size,
             };
-            committed.release(&mut pool.source, resource.memory_type_index, made)
+            committed.release(&mut pool.source, made)
         }
     }
 }

@@ -1,6 +1,6 @@
 use Rattle.std.proofs.Common.{◌≡◌, ◌<◌, ◌^◌, rules, sym, subst, arith, length, List, slice_set, Option, None}
 use Rattle.gpu_d3d12.specs.Committed.{total_size}
-use Rattle.gpu_d3d12.specs.CommittedRequests.{RecordState, HasRoom, Forgets}
+use Rattle.gpu_d3d12.specs.CommittedRequests.{HasRoom, Forgets}
 use Rattle.gpu_d3d12.specs.declared.committed_record.CommittedRecord.{CommittedRecord}
 use Rattle.gpu_d3d12.specs.declared.committed_requests.AwaitedResource.{AwaitedResource}
 use Rattle.gpu_d3d12.proofs.Awaiting.{rooms, state, forgets}

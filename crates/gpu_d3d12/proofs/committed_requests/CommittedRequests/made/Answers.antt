@@ -1,7 +1,7 @@
-use Rattle.std.proofs.Common.{◌≡◌, ◌∙◌, ◌<◌, ◌^◌, sym, ap, subst, arith, length, List, slice_set, Option, Some, None, Ok}
+use Rattle.std.proofs.Common.{◌≡◌, ◌<◌, sym, ap, subst, arith, length, List, slice_set, Option, Some, Ok}
 use Rattle.std.specs.Prelude.{vec_capacity}
 use Rattle.gpu_d3d12.specs.Committed.{total_size}
-use Rattle.gpu_d3d12.specs.CommittedRequests.{RecordState, HasPlace, HasRoom, Makes}
+use Rattle.gpu_d3d12.specs.CommittedRequests.{HasPlace, HasRoom, Makes}
 use Rattle.gpu_d3d12.specs.declared.committed_record.CommittedRecord.{CommittedRecord}
 use Rattle.gpu_d3d12.specs.declared.committed_requests.AwaitedResource.{AwaitedResource}
 use Rattle.gpu_d3d12.proofs.Awaiting.{rooms, state, type_there, place_there, made_at}
