@@ -22,7 +22,7 @@ use Rattle.gpu_run.specs.D3D12Command.{KeyCommand, ResourceCommand, SessionComma
 use Rattle.gpu_run.specs.D3D12Reply.{SessionReply}
 use Rattle.gpu_run.specs.D3D12Session.{SessionState, CommandEnvironment, refused_after, ServesAt, ServesResourceAt, SessionServes, Asks, reply_by}
 use Rattle.gpu_run.specs.D3D12Served.{SessionValue, session_of, IsConstant, IsAnswered, ServesCommand, journal_after}
-use Rattle.gpu_run.specs.declared.d3d12.command.Command.{Command}
+use Rattle.gpu_run.specs.D3D12Command.{Command}
 use Rattle.gpu_run.specs.declared.d3d12.reply.Reply.{Reply}
 use Rattle.gpu_run.proofs.D3D12Counting.{refusals, Leaves}
 

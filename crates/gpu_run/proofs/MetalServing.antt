@@ -20,7 +20,7 @@ use Rattle.gpu_run.specs.MetalCommand.{KeyCommand, SessionCommand, Under, Heaps}
 use Rattle.gpu_run.specs.MetalReply.{SessionReply}
 use Rattle.gpu_run.specs.MetalSession.{SessionState, SessionInvariant, IsOwn, CommandEnvironment, refused_after, ServesAt, SessionServes, Asks, reply_by, reply_to_heaps}
 use Rattle.gpu_run.specs.MetalServed.{SessionValue, session_of, IsConstant, IsAnswered, ServesCommand}
-use Rattle.gpu_run.specs.declared.metal.command.Command.{Command}
+use Rattle.gpu_run.specs.MetalCommand.{Command}
 use Rattle.gpu_run.specs.declared.metal.reply.Reply.{Reply}
 use Rattle.gpu_run.proofs.MetalCounting.{step_counts}
 

@@ -3,7 +3,6 @@ use Rattle.std.proofs.Common.{◌≡◌, ℕ, List, [], ◌∷◌, map, Option, 
 use Rattle.std.specs.Prelude.{Vec}
 use Rattle.std.specs.Global.{Global}
 use Rattle.gpu_values.specs.declared.error.AllocationError.{AllocationError}
-use Rattle.gpu_run.specs.declared.vulkan.command.Command.{Command}
 use Rattle.gpu_run.specs.declared.vulkan.reply.Reply.{Reply}
 use Rattle.gpu_block_session.specs.CommandList.{IsRun as IsRunOf}
 use Rattle.gpu_device.specs.declared.vulkan.device.VulkanDevice.{Ghosts}
@@ -19,7 +18,7 @@ use Rattle.gpu_run.specs.Bindings.{bindings_of}
 use Rattle.gpu_run.specs.VulkanCommand.{KeyCommand, SessionCommand, Under}
 use Rattle.gpu_run.specs.VulkanReply.{SessionReply}
 use Rattle.gpu_run.specs.VulkanSession.{SessionState, IsOwn, SessionInvariant, CommandEnvironment, Stays, ServesAt, SessionServes, Runs, Asks, reply_by}
-use Rattle.gpu_run.specs.VulkanServed.{SessionValue, session_of, command_of, reply_of, count_over, latest_over, IsCommandServed, ServesCommand, IsRun, ServesEach}
+use Rattle.gpu_run.specs.VulkanServed.{Command, SessionValue, session_of, command_of, reply_of, count_over, latest_over, IsCommandServed, ServesCommand, IsRun, ServesEach}
 
 -- nothing is met with
 abbrev pub quiet : CommandEnvironment

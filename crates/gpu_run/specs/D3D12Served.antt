@@ -9,11 +9,10 @@ use Rattle.gpu_d3d12.specs.declared.journal.ResourceEvent.{ResourceEvent}
 use Rattle.gpu_d3d12.specs.declared.journal.ResourceEvent.TheVariants as events
 use Rattle.gpu_d3d12.specs.declared.resource.Resource.{Resource}
 use Rattle.gpu_run.specs.Bindings.{Bindings, bindings_of}
-use Rattle.gpu_run.specs.D3D12Command.{Create, Release, SessionCommand, Under, UnderResource, Leaks, Report, Capacity, Committed, SetBudget, command_of}
+use Rattle.gpu_run.specs.D3D12Command.{Command, Create, Release, SessionCommand, Under, UnderResource, Leaks, Report, Capacity, Committed, SetBudget, command_of}
 use Rattle.gpu_run.specs.D3D12Reply as replies
 use Rattle.gpu_run.specs.D3D12Reply.{SessionReply, reply_of}
 use Rattle.gpu_run.specs.D3D12Session.{SessionState, SessionInvariant, IsCommandServed}
-use Rattle.gpu_run.specs.declared.d3d12.command.Command.{Command}
 use Rattle.gpu_run.specs.declared.d3d12.reply.Reply.{Reply}
 
 -- what callers see of a session: the allocator, and what the numbers stand for

@@ -4,10 +4,9 @@ use Rattle.gpu_device.specs.declared.metal.device.MetalDevice.{Ghosts}
 use Rattle.gpu_metal.specs.State.{State, model_of}
 use Rattle.gpu_metal.specs.Live.{Allocation}
 use Rattle.gpu_run.specs.Bindings.{bindings_of}
-use Rattle.gpu_run.specs.MetalCommand.{SessionCommand, command_of}
+use Rattle.gpu_run.specs.MetalCommand.{Command, SessionCommand, command_of}
 use Rattle.gpu_run.specs.MetalReply.{SessionReply, reply_of}
 use Rattle.gpu_run.specs.MetalSession.{SessionState, SessionInvariant, IsCommandServed}
-use Rattle.gpu_run.specs.declared.metal.command.Command.{Command}
 use Rattle.gpu_run.specs.declared.metal.reply.Reply.{Reply}
 
 -- what callers see of a session: the allocator, and what the numbers stand for

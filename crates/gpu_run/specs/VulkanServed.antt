@@ -15,24 +15,35 @@ use Rattle.gpu_run.specs.VulkanReply as replies
 use Rattle.gpu_run.specs.VulkanCommand.{SessionCommand, wanted_of, Alloc, Move, Null, Free, Rename, Write, Read, Under, Report, Leaks, Capacity, SetBudget}
 use Rattle.gpu_run.specs.VulkanReply.{Shown, SessionReply, Allocated, Done, Bytes, Busy, Unbound, NoPlace, Unmapped, OutOfRange, Error}
 use Rattle.gpu_run.specs.VulkanSession.{SessionState, SessionInvariant, CommandEnvironment, SessionServes, Runs}
-use Rattle.gpu_run.specs.declared.vulkan.command.Command.{Command}
-use Rattle.gpu_run.specs.declared.vulkan.command.Command.TheVariants as asked
+use Rattle.gpu_run.specs.declared.command.Command as commands
+use Rattle.gpu_run.specs.declared.command.Command.TheVariants as asked
+use Rattle.gpu_run.specs.declared.vulkan.command.Other.{Other}
+use Rattle.gpu_run.specs.declared.vulkan.command.Other.TheVariants as others
+use Rattle.gpu_run.specs.declared.vulkan.command.Request.{Request}
 use Rattle.gpu_run.specs.declared.vulkan.reply.Reply.{Reply}
 use Rattle.gpu_run.specs.declared.vulkan.reply.Reply.TheVariants as answered
 use Rattle.gpu_run.specs.declared.vulkan.reply.Allocated.{Allocated as AllocatedPiece}
 
+-- a command to a session
+abbrev pub Command : Type 0
+Command = commands.Command Request Other
+
+-- what this API's sessions alone are asked for, in the words of the model
+abbrev pub other_of : Other → SessionCommand
+other_of (others.Null key) = Under key Null
+other_of (others.Rename key name) = Under key (Rename (string_bytes name))
+other_of (others.Write key at bytes) = Under key (Write at bytes.items)
+other_of (others.Read key at size) = Under key (Read at size)
+other_of others.Leaks = Leaks
+
 abbrev pub command_of : Command → SessionCommand
 command_of (asked.Alloc key request) = Under key (Alloc (wanted_of request))
 command_of (asked.Move key to request) = Under key (Move to (wanted_of request))
-command_of (asked.Null key) = Under key Null
 command_of (asked.Free key) = Under key Free
-command_of (asked.Rename key name) = Under key (Rename (string_bytes name))
-command_of (asked.Write key at bytes) = Under key (Write at bytes.items)
-command_of (asked.Read key at size) = Under key (Read at size)
 command_of asked.Report = Report
-command_of asked.Leaks = Leaks
 command_of asked.Capacity = Capacity
 command_of (asked.SetBudget t budget) = SetBudget t budget
+command_of (asked.Other other) = other_of other
 
 abbrev pub shown_of : AllocatedPiece → Shown
 shown_of g = record {

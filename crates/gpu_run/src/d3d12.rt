@@ -6,6 +6,6 @@ mod describe;
 mod reply;
 mod session;
 
-pub use command::{Command, Memory, Request, WantedResource};
+pub use command::{Command, Memory, Other, Request, WantedResource};
 pub use reply::{Allocated, Made, Reply};
 pub use session::Session;

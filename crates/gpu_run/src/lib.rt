@@ -3,9 +3,11 @@
 #![tactic(auto)]
 
 mod bindings;
+mod command;
 pub mod d3d12;
 pub mod metal;
 pub mod vulkan;
 
 pub use bindings::bind;
+pub use command::Command;
 pub use gpu_block_session::{ErrorNumber, Serve, block, number_of, run};

@@ -5,6 +5,6 @@ mod describe;
 mod reply;
 mod session;
 
-pub use command::{Command, Request};
+pub use command::{Command, Other, Request};
 pub use reply::{Allocated, Reply};
 pub use session::Session;

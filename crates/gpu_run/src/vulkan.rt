@@ -6,6 +6,6 @@ pub mod laws;
 mod reply;
 mod session;
 
-pub use command::{Command, Request};
+pub use command::{Command, Other, Request};
 pub use reply::{Allocated, Reply};
 pub use session::Session;

@@ -1,3 +1,3 @@
 //! Sessions over the Metal allocator.
 
-pub use gpu_run::metal::{Allocated, Command, Reply, Request, Session};
+pub use gpu_run::metal::{Allocated, Command, Other, Reply, Request, Session};

@@ -1,3 +1,3 @@
 //! Sessions over the Vulkan allocator.
 
-pub use gpu_run::vulkan::{Allocated, Command, Reply, Request, Session, laws};
+pub use gpu_run::vulkan::{Allocated, Command, Other, Reply, Request, Session, laws};

@@ -4,7 +4,7 @@ mod refused;
 
 use crate::check;
 use gpu_allocator::vulkan::*;
-use gpu_session::{Command, Reply, Request, Session};
+use gpu_session::{Command, Other, Reply, Request, Session};
 use gpu_sim::SimVulkan;
 use gpu_values::{AllocationError, AllocationSizes, AllocatorDebugSettings, MemoryLocation};
 use log::sink::Discard;
@@ -103,12 +103,12 @@ fn command_of(alloc: Global, call: Call) -> std::result::Result<Command, AllocEr
             to,
             request: request_of(alloc, piece)?,
         }),
-        Call::Write(key, at, bytes) => Ok(Command::Write {
+        Call::Write(key, at, bytes) => Ok(Command::Other(Other::Write {
             key,
             at,
             bytes: Vec::from_slice(alloc, bytes)?,
-        }),
-        Call::Read(key, at, size) => Ok(Command::Read { key, at, size }),
+        })),
+        Call::Read(key, at, size) => Ok(Command::Other(Other::Read { key, at, size })),
         Call::Free(key) => Ok(Command::Free { key }),
         Call::Capacity => Ok(Command::Capacity),
     }

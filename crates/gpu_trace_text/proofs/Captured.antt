@@ -10,17 +10,20 @@ use Rattle.gpu_capture.specs.declared.capture.CaptureEnd.{CaptureEnd}
 use Rattle.gpu_capture.specs.declared.capture.CaptureEnd.TheVariants.{Whole}
 use Rattle.gpu_capture.specs.CaptureState.{last_line}
 use Rattle.gpu_capture.specs.Line.{line_of, name_word}
-use Rattle.gpu_capture.specs.Words.{location_word, refusal_word, budget_word, alloc_words, move_words, rename_words}
+use Rattle.gpu_capture.specs.Words.{location_word, refusal_word, alloc_words, budget_words, free_words, move_words, rename_words}
 use Rattle.gpu_capture.specs.Vulkan.{linear_word, scheme_word, vulkan_words}
 use Rattle.gpu_capture.proofs.Lines.{AreClean, clean_decimal, clean_name}
 use Rattle.gpu_run.specs.declared.vulkan.command.Request.{Request}
-use Rattle.gpu_run.specs.declared.vulkan.command.Command.{Command}
-use Rattle.gpu_run.specs.declared.vulkan.command.Command.TheVariants as asked
+use Rattle.gpu_run.specs.VulkanServed.{Command}
+use Rattle.gpu_run.specs.declared.command.Command.TheVariants as asked
+use Rattle.gpu_run.specs.declared.vulkan.command.Other.{Other}
+use Rattle.gpu_run.specs.declared.vulkan.command.Other.TheVariants as others
 use Rattle.gpu_block_session.specs.Words.{IsName}
 use Rattle.gpu_block_session.specs.BlockWords as block
 use Rattle.gpu_block_session.specs.declared.block.command.Command as blocks
 use Rattle.gpu_block_session.specs.declared.block.command.Command.TheVariants as block_commands
 use Rattle.gpu_trace_text.specs.Ask as ask
+use Rattle.gpu_trace_text.specs.Command.{words, CommandFits, FitsBudget}
 use Rattle.gpu_trace_text.specs.Spelled.{Spells}
 use Rattle.gpu_trace_text.specs.Setting as setting
 use Rattle.gpu_trace_text.specs.Line.{Means}
@@ -30,7 +33,7 @@ use Rattle.gpu_trace_text.specs.declared.device.setting.Setting.{Setting}
 use Rattle.gpu_trace_text.specs.declared.device.setting.Setting.TheVariants.{Heap, MemoryType, Granularity, Sizes, Refuse}
 use Rattle.gpu_trace_text.specs.declared.dialect.Line.TheVariants as lines
 use Rattle.gpu_trace_text.proofs.CapturedWords.{clean_text, clean_location, clean_linear, clean_scheme, clean_budget, clean_refusal, location-one, linear-one, scheme-one, is_name, text_of, budget-one, refusal-one, clean_small, other}
-use Rattle.gpu_trace_text.proofs.Reading.{Words, kinds, sets, ends, remarks, tells, asks_line, sets_line, new_line, destroy_line, ended_line}
+use Rattle.gpu_trace_text.proofs.Reading.{Words, IsOwn, kinds, sets, tells, asks_line, alloc_line, move_line, free_line, budget_line, sets_line, new_line, destroy_line, ended_line}
 
 -- ---- words
 
@@ -38,17 +41,9 @@ block_kind : (c : blocks.Command) → kinds (block.words c) ≡ tells
 block_kind (block_commands.Block side min max count granularity) = refl
 block_kind c = refl
 
-command_kind : (c : Command) → kinds (ask.words c) ≡ sets → ⊥
-command_kind (asked.Alloc key q) e = cc
-command_kind c e = cc
-
-command_ends : (c : Command) → kinds (ask.words c) ≡ ends → ⊥
-command_ends (asked.Alloc key q) e = cc
-command_ends c e = cc
-
-command_remarks : (c : Command) → kinds (ask.words c) ≡ remarks → ⊥
-command_remarks (asked.Alloc key q) e = cc
-command_remarks c e = cc
+own_kind : (o : Other) → IsOwn (kinds (ask.words o))
+own_kind (others.Null key) = tt
+own_kind o = tt
 
 pub shared_kind : (s : Setting) → kinds (setting.words s) ≡ sets
 shared_kind (Heap size) = refl
@@ -77,20 +72,27 @@ setting_one (Refuse a r) (Refuse b q) f g e =
     ap (λ (n : ℕ). Refuse n q) (decimal_injective b a g.1 f.1 k) ∙ ap (λ (n : Refusal). Refuse a n) (refusal-one r q f.2 g.2 w)
 setting_one s t f g e = absurd (other e refl)
 
-abbrev said : Words Setting Command blocks.Command
+abbrev said : Words Setting Request Other blocks.Command
 said = record {
   setting = setting.words;
   FitsSetting = setting.SettingFits;
-  command = ask.words;
-  FitsCommand = ask.CommandFits;
-  IsOther = block.Spells;
+  request = ask.request_words;
+  FitsRequest = ask.FitsRequest;
+  own = ask.words;
+  FitsOwn = ask.OtherFits;
+  look = block.words;
+  FitsLook = block.CommandFits;
   setting_kind = shared_kind;
-  command_kind = command_kind;
-  command_ends = command_ends;
-  command_remarks = command_remarks;
-  other_kind = λ ws c r. ap kinds r.is ∙ block_kind c;
+  own_kind = own_kind;
+  look_kind = block_kind;
   setting_one = setting_one;
 }
+
+abbrev pub command_words : Command → List (List ℕ)
+command_words = words ask.request_words ask.words
+
+abbrev pub FitsCommand : Command → Type 0
+FitsCommand = CommandFits ask.FitsRequest ask.OtherFits
 
 -- ---- requests
 
@@ -144,45 +146,20 @@ same_request r q f h e =
       name = cc;
     }
 
--- ---- allocations
-
-alloc_one : (n : ℕ) (r : VulkanRequest) → n < 2 ^ 64 → FitsCaptured r → (d : Command) → Spells ask.words ask.CommandFits (alloc_words n (request_words r)) d
-    → IsAlloc n r (lines.Asks d)
-alloc_one n r small f (asked.Alloc key q) s =
-    let i = s.is in
-    let k : decimal key ≡ decimal n = cc in
-    let e : request_words r ≡ ask.request_words q = cc in
-    (decimal_injective key n s.fits.0 small k, same_request r q f s.fits.1 e)
-alloc_one n r small f d s = absurd (other s.is refl)
+-- ---- commands
 
 pub alloc_reads : Global → (n : ℕ) (r : VulkanRequest) (rest : List ℕ) → n < 2 ^ 64 → FitsCaptured r
-    → BeginsWith Means (IsAlloc n r) (line_of (alloc_words n (request_words r)) ++ rest) rest
+    → BeginsWith Means (IsAlloc n (IsRequest r)) (line_of (alloc_words n (request_words r)) ++ rest) rest
 alloc_reads g n r rest small f =
-    asks_line said (IsAlloc n r) (asked.Alloc n (request_of g r)) (codes "alloc") (decimal n ∷ request_words r) rest (ap (alloc_words n) (spelled g r)) refl (small, fits_request g r f)
-    (clean_text (codes "alloc") refl, (clean_decimal n small, clean_request r f)) (λ e. absurd (omega arith)) (alloc_one n r small f)
-
--- ---- second places
-
-move_one : (n m : ℕ) (r : VulkanRequest) → n < 2 ^ 64 → m < 2 ^ 64 → FitsCaptured r → (d : Command)
-    → Spells ask.words ask.CommandFits (move_words n m (request_words r)) d → IsMove n m r (lines.Asks d)
-move_one n m r small also f (asked.Move key to q) s =
-    let i = s.is in
-    let k : decimal key ≡ decimal n = cc in
-    let t : decimal to ≡ decimal m = cc in
-    let e : request_words r ≡ ask.request_words q = cc in
-    (decimal_injective key n s.fits.0 small k, decimal_injective to m s.fits.1 also t, same_request r q f s.fits.2 e)
-move_one n m r small also f d s = absurd (other s.is refl)
+    alloc_line said (IsRequest r) n (request_of g r) (request_words r) rest small (fits_request g r f) (spelled g r) (clean_request r f) (λ q h e. same_request r q f h e)
 
 pub move_reads : Global → (n m : ℕ) (r : VulkanRequest) (rest : List ℕ) → n < 2 ^ 64 → m < 2 ^ 64 → FitsCaptured r
-    → BeginsWith Means (IsMove n m r) (line_of (move_words n m (request_words r)) ++ rest) rest
+    → BeginsWith Means (IsMove n m (IsRequest r)) (line_of (move_words n m (request_words r)) ++ rest) rest
 move_reads g n m r rest small also f =
-    asks_line said (IsMove n m r) (asked.Move n m (request_of g r)) (codes "move") (decimal n ∷ decimal m ∷ request_words r) rest (ap (move_words n m) (spelled g r)) refl (small, also, fits_request g r f)
-    (clean_text (codes "move") refl, (clean_decimal n small, (clean_decimal m also, clean_request r f))) (λ e. absurd (omega arith)) (move_one n m r small also f)
+    move_line said (IsRequest r) n m (request_of g r) (request_words r) rest small also (fits_request g r f) (spelled g r) (clean_request r f) (λ q h e. same_request r q f h e)
 
--- ---- names
-
-rename_one : (n : ℕ) (name : List ℕ) → n < 2 ^ 64 → (d : Command) → Spells ask.words ask.CommandFits (rename_words n (name_word name)) d → IsRename n name (lines.Asks d)
-rename_one n name small (asked.Rename key read) s =
+rename_one : (n : ℕ) (name : List ℕ) → n < 2 ^ 64 → (d : Command) → Spells command_words FitsCommand (rename_words n (name_word name)) d → IsRename n name (lines.Asks d)
+rename_one n name small (asked.Other (others.Rename key read)) s =
     let i = s.is in
     let k : decimal key ≡ decimal n = cc in
     let same : string_bytes read ≡ name_word name = cc in
@@ -191,38 +168,15 @@ rename_one n name small d s = absurd (other s.is refl)
 
 pub rename_reads : Global → (n : ℕ) (name rest : List ℕ) → n < 2 ^ 64 → BeginsWith Means (IsRename n name) (line_of (rename_words n (name_word name)) ++ rest) rest
 rename_reads g n name rest small =
-    asks_line said (IsRename n name) (asked.Rename n (text_of g name).0) (codes "rename") (decimal n ∷ name_word name ∷ []) rest (ap (rename_words n) (sym (text_of g name).1)) refl (small, subst IsName (sym (text_of g name).1) (is_name name))
+    asks_line said (IsRename n name) (asked.Other (others.Rename n (text_of g name).0)) (codes "rename") (decimal n ∷ name_word name ∷ []) rest (ap (rename_words n) (sym (text_of g name).1)) tt (small, subst IsName (sym (text_of g name).1) (is_name name))
     (clean_text (codes "rename") refl, (clean_decimal n small, (clean_name name, tt))) (λ e. absurd (omega arith)) (rename_one n name small)
 
--- ---- frees and budgets
+pub free_reads : (n : ℕ) (rest : List ℕ) → n < 2 ^ 64 → BeginsWith Means (λ l. l ≡ lines.Asks (asked.Free n)) (line_of (free_words n) ++ rest) rest
+free_reads n rest small = free_line said n rest small
 
-free_one : (n : ℕ) → n < 2 ^ 64 → (d : Command) → Spells ask.words ask.CommandFits (ask.words (asked.Free n)) d → d ≡ asked.Free n
-free_one n small (asked.Free key) s =
-    let i = s.is in
-    let k : decimal key ≡ decimal n = cc in
-    ap asked.Free (decimal_injective key n s.fits small k)
-free_one n small d s = absurd (other s.is refl)
-
-pub free_reads : (n : ℕ) (rest : List ℕ) → n < 2 ^ 64 → BeginsWith Means (λ l. l ≡ lines.Asks (asked.Free n)) (line_of (ask.words (asked.Free n)) ++ rest) rest
-free_reads n rest small =
-    asks_line said (λ l. l ≡ lines.Asks (asked.Free n)) (asked.Free n) (codes "free") (decimal n ∷ []) rest refl refl small
-    (clean_text (codes "free") refl, (clean_decimal n small, tt)) (λ e. absurd (omega arith)) (λ d s. ap lines.Asks (free_one n small d s))
-
-budget_one : (t : ℕ) (b : Option ℕ) → t < 2 ^ 64 → ask.FitsBudget b → (d : Command) → Spells ask.words ask.CommandFits (ask.words (asked.SetBudget t b)) d → d ≡ asked.SetBudget t b
-budget_one t b small f (asked.SetBudget u c) s =
-    let i = s.is in
-    let k : decimal u ≡ decimal t = cc in
-    let w : budget_word b ≡ budget_word c = cc in
-    let same : u ≡ t = decimal_injective u t s.fits.0 small k in
-    let also : c ≡ b = budget-one b c f s.fits.1 w in
-    ap (λ (m : ℕ). asked.SetBudget m c) same ∙ ap (asked.SetBudget t) also
-budget_one t b small f d s = absurd (other s.is refl)
-
-pub budget_reads : (t : ℕ) (b : Option ℕ) (rest : List ℕ) → t < 2 ^ 64 → ask.FitsBudget b
-    → BeginsWith Means (λ l. l ≡ lines.Asks (asked.SetBudget t b)) (line_of (ask.words (asked.SetBudget t b)) ++ rest) rest
-budget_reads t b rest small f =
-    asks_line said (λ l. l ≡ lines.Asks (asked.SetBudget t b)) (asked.SetBudget t b) (codes "budget") (decimal t ∷ budget_word b ∷ []) rest refl refl (small, f)
-    (clean_text (codes "budget") refl, (clean_decimal t small, (clean_budget b f, tt))) (λ e. absurd (omega arith)) (λ d s. ap lines.Asks (budget_one t b small f d s))
+pub budget_reads : (t : ℕ) (b : Option ℕ) (rest : List ℕ) → t < 2 ^ 64 → FitsBudget b
+    → BeginsWith Means (λ l. l ≡ lines.Asks (asked.SetBudget t b)) (line_of (budget_words t b) ++ rest) rest
+budget_reads t b rest small f = budget_line said t b rest small f
 
 -- ---- settings
 

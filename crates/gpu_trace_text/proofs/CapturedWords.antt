@@ -27,6 +27,7 @@ use Rattle.gpu_block_session.specs.Words.{IsName}
 use Rattle.gpu_block_session.proofs.Canonical.{differ, mag_below}
 use Rattle.gpu_block_session.proofs.Numbers.{front}
 use Rattle.gpu_trace_text.specs.Ask as ask
+use Rattle.gpu_trace_text.specs.Command.{FitsBudget}
 use Rattle.gpu_trace_text.specs.Setting as setting
 use Rattle.gpu_trace_text.proofs.Made.{made}
 
@@ -72,7 +73,7 @@ clean_scheme GpuAllocatorManaged f = clean_text (codes "managed") refl
 clean_scheme (DedicatedBuffer b) f = All-append (IsInRange 33 126) (codes "buffer:") (decimal b.0) (clean_text (codes "buffer:") refl) (clean_decimal b.0 f)
 clean_scheme (DedicatedImage i) f = All-append (IsInRange 33 126) (codes "image:") (decimal i.0) (clean_text (codes "image:") refl) (clean_decimal i.0 f)
 
-pub clean_budget : (b : Option ℕ) → ask.FitsBudget b → IsClean (budget_word b)
+pub clean_budget : (b : Option ℕ) → FitsBudget b → IsClean (budget_word b)
 clean_budget None f = clean_text (codes "none") refl
 clean_budget (Some bytes) f = clean_decimal bytes f
 
@@ -139,7 +140,7 @@ text_of g name =
 pub none_digits : (n : ℕ) → n < 2 ^ 64 → codes "none" ≡ decimal n → ⊥
 none_digits n h e = let d = (front (codes "none") n h e).digit in absurd (omega arith)
 
-pub budget-one : (a b : Option ℕ) → ask.FitsBudget a → ask.FitsBudget b → budget_word a ≡ budget_word b → b ≡ a
+pub budget-one : (a b : Option ℕ) → FitsBudget a → FitsBudget b → budget_word a ≡ budget_word b → b ≡ a
 budget-one None None f g e = refl
 budget-one (Some a) (Some b) f g e = ap Some (decimal_injective b a g f (sym e))
 budget-one None (Some b) f g e = absurd (none_digits b g e)

@@ -11,20 +11,22 @@ use Rattle.gpu_capture.specs.CaptureState.{last_line}
 use Rattle.gpu_capture.specs.D3D12 as captured
 use Rattle.gpu_capture.specs.D3D12.{d3d12_words}
 use Rattle.gpu_capture.specs.Line.{line_of, name_word}
-use Rattle.gpu_capture.specs.Words.{location_word, refusal_word, budget_word, alloc_words, move_words, rename_words}
+use Rattle.gpu_capture.specs.Words.{location_word, refusal_word, alloc_words, budget_words, free_words, move_words, rename_words}
 use Rattle.gpu_capture.proofs.Lines.{IsClean, AreClean, clean_decimal, clean_signed, clean_name}
 use Rattle.gpu_run.specs.declared.d3d12.command.Request.{Request}
-use Rattle.gpu_run.specs.declared.d3d12.command.Command.{Command}
-use Rattle.gpu_run.specs.declared.d3d12.command.Command.TheVariants as asked
+use Rattle.gpu_run.specs.D3D12Command.{Command}
+use Rattle.gpu_run.specs.declared.command.Command.TheVariants as asked
+use Rattle.gpu_run.specs.declared.d3d12.command.Other.{Other}
+use Rattle.gpu_run.specs.declared.d3d12.command.Other.TheVariants as others
 use Rattle.gpu_block_session.specs.Words.{IsName}
-use Rattle.gpu_trace_text.specs.Ask.{FitsBudget}
 use Rattle.gpu_trace_text.specs.D3D12Command as command
+use Rattle.gpu_trace_text.specs.Command.{words, CommandFits, FitsBudget}
 use Rattle.gpu_trace_text.specs.Spelled.{Spells}
 use Rattle.gpu_trace_text.specs.D3D12Setting as setting
-use Rattle.gpu_trace_text.specs.D3D12Line.{Means, IsLook, look_words}
+use Rattle.gpu_trace_text.specs.D3D12Line.{Means, look_words, LookFits}
 use Rattle.gpu_trace_text.specs.Dialect.{new_words, destroy_words}
-use Rattle.gpu_trace_text.specs.Captured.{BeginsWith}
-use Rattle.gpu_trace_text.specs.D3D12Captured.{FitsCaptured, IsRequest, IsAlloc, IsMove, IsRename, category_of}
+use Rattle.gpu_trace_text.specs.Captured.{BeginsWith, IsAlloc, IsMove}
+use Rattle.gpu_trace_text.specs.D3D12Captured.{FitsCaptured, IsRequest, IsRename, category_of}
 use Rattle.gpu_trace_text.specs.declared.device.setting.Setting.TheVariants as shared
 use Rattle.gpu_trace_text.specs.declared.d3d12.line.Look.{Look}
 use Rattle.gpu_trace_text.specs.declared.d3d12.line.Look.TheVariants.{Asked}
@@ -33,7 +35,7 @@ use Rattle.gpu_trace_text.specs.declared.d3d12.setting.Setting.TheVariants as se
 use Rattle.gpu_trace_text.specs.declared.dialect.Line.TheVariants as lines
 use Rattle.gpu_trace_text.proofs.CapturedWords.{clean_text, clean_location, clean_budget, location-one, budget-one, is_name, text_of, other, clean_refusal}
 use Rattle.gpu_trace_text.proofs.Captured.{setting_one, shared_kind}
-use Rattle.gpu_trace_text.proofs.Reading.{Words, kinds, sets, ends, remarks, tells, asks_line, sets_line, new_line, destroy_line, ended_line}
+use Rattle.gpu_trace_text.proofs.Reading.{Words, IsOwn, kinds, sets, tells, asks_line, alloc_line, move_line, free_line, budget_line, sets_line, new_line, destroy_line, ended_line}
 use Rattle.gpu_device.specs.declared.d3d12.types.ResourceHeapTier.TheVariants.{Tier1, Tier2}
 use Rattle.gpu_trace_text.specs.declared.d3d12.setting.Version as versions_of
 use Rattle.gpu_trace_text.specs.declared.d3d12.setting.Version.TheVariants as versions
@@ -47,17 +49,9 @@ use Rattle.gpu_d3d12.specs.declared.category.ResourceCategory.TheVariants as res
 
 -- ---- words
 
-pub command_kind : (c : Command) → kinds (command.words c) ≡ sets → ⊥
-command_kind (asked.Alloc key q) e = cc
-command_kind c e = cc
-
-pub command_ends : (c : Command) → kinds (command.words c) ≡ ends → ⊥
-command_ends (asked.Alloc key q) e = cc
-command_ends c e = cc
-
-pub command_remarks : (c : Command) → kinds (command.words c) ≡ remarks → ⊥
-command_remarks (asked.Alloc key q) e = cc
-command_remarks c e = cc
+own_kind : (o : Other) → IsOwn (kinds (command.words o))
+own_kind (others.Rename key name) = tt
+own_kind o = tt
 
 pub setting_kind : (s : Setting) → kinds (setting.words s) ≡ sets
 setting_kind (settings.Tier tier) = refl
@@ -92,20 +86,27 @@ own_setting_one (settings.Shared (shared.Heap size)) (settings.Tier b) f g e = a
 own_setting_one (settings.Shared (shared.Heap size)) (settings.Interface b) f g e = absurd (other e refl)
 own_setting_one s t f g e = absurd (other e refl)
 
-abbrev pub said : Words Setting Command Look
+abbrev pub said : Words Setting Request Other Look
 said = record {
   setting = setting.words;
   FitsSetting = setting.SettingFits;
-  command = command.words;
-  FitsCommand = command.CommandFits;
-  IsOther = IsLook;
+  request = command.request_words;
+  FitsRequest = command.FitsRequest;
+  own = command.words;
+  FitsOwn = command.OtherFits;
+  look = look_words;
+  FitsLook = LookFits;
   setting_kind = setting_kind;
-  command_kind = command_kind;
-  command_ends = command_ends;
-  command_remarks = command_remarks;
-  other_kind = λ ws l r. ap kinds r ∙ look_kind l;
+  own_kind = own_kind;
+  look_kind = look_kind;
   setting_one = own_setting_one;
 }
+
+abbrev pub command_words : Command → List (List ℕ)
+command_words = words command.request_words command.words
+
+abbrev pub FitsCommand : Command → Type 0
+FitsCommand = CommandFits command.FitsRequest command.OtherFits
 
 -- ---- requests
 
@@ -162,36 +163,18 @@ same_request r q f h e =
 
 -- ---- commands
 
-alloc_one : (n : ℕ) (r : D3D12Request) → n < 2 ^ 64 → FitsCaptured r → (d : Command) → Spells command.words command.CommandFits (alloc_words n (request_words r)) d → IsAlloc n r (lines.Asks d)
-alloc_one n r small f (asked.Alloc key q) s =
-    let i = s.is in
-    let k : decimal key ≡ decimal n = cc in
-    let e : request_words r ≡ command.request_words q = cc in
-    (decimal_injective key n s.fits.0 small k, same_request r q f s.fits.1 e)
-alloc_one n r small f d s = absurd (other s.is refl)
-
-pub alloc_reads : Global → (n : ℕ) (r : D3D12Request) (rest : List ℕ) → n < 2 ^ 64 → FitsCaptured r → BeginsWith Means (IsAlloc n r) (line_of (alloc_words n (request_words r)) ++ rest) rest
+pub alloc_reads : Global → (n : ℕ) (r : D3D12Request) (rest : List ℕ) → n < 2 ^ 64 → FitsCaptured r
+    → BeginsWith Means (IsAlloc n (IsRequest r)) (line_of (alloc_words n (request_words r)) ++ rest) rest
 alloc_reads g n r rest small f =
-    asks_line said (IsAlloc n r) (asked.Alloc n (request_of g r)) (codes "alloc") (decimal n ∷ request_words r) rest (ap (alloc_words n) (spelled g r)) refl (small, fits_request g r f)
-    (clean_text (codes "alloc") refl, (clean_decimal n small, clean_request r f)) (λ e. absurd (omega arith)) (alloc_one n r small f)
-
-move_one : (n m : ℕ) (r : D3D12Request) → n < 2 ^ 64 → m < 2 ^ 64 → FitsCaptured r → (d : Command) → Spells command.words command.CommandFits (move_words n m (request_words r)) d → IsMove n m r (lines.Asks d)
-move_one n m r small also f (asked.Move key to q) s =
-    let i = s.is in
-    let k : decimal key ≡ decimal n = cc in
-    let t : decimal to ≡ decimal m = cc in
-    let e : request_words r ≡ command.request_words q = cc in
-    (decimal_injective key n s.fits.0 small k, decimal_injective to m s.fits.1 also t, same_request r q f s.fits.2 e)
-move_one n m r small also f d s = absurd (other s.is refl)
+    alloc_line said (IsRequest r) n (request_of g r) (request_words r) rest small (fits_request g r f) (spelled g r) (clean_request r f) (λ q h e. same_request r q f h e)
 
 pub move_reads : Global → (n m : ℕ) (r : D3D12Request) (rest : List ℕ) → n < 2 ^ 64 → m < 2 ^ 64 → FitsCaptured r
-    → BeginsWith Means (IsMove n m r) (line_of (move_words n m (request_words r)) ++ rest) rest
+    → BeginsWith Means (IsMove n m (IsRequest r)) (line_of (move_words n m (request_words r)) ++ rest) rest
 move_reads g n m r rest small also f =
-    asks_line said (IsMove n m r) (asked.Move n m (request_of g r)) (codes "move") (decimal n ∷ decimal m ∷ request_words r) rest (ap (move_words n m) (spelled g r)) refl (small, also, fits_request g r f)
-    (clean_text (codes "move") refl, (clean_decimal n small, (clean_decimal m also, clean_request r f))) (λ e. absurd (omega arith)) (move_one n m r small also f)
+    move_line said (IsRequest r) n m (request_of g r) (request_words r) rest small also (fits_request g r f) (spelled g r) (clean_request r f) (λ q h e. same_request r q f h e)
 
-rename_one : (n : ℕ) (name : List ℕ) → n < 2 ^ 64 → (d : Command) → Spells command.words command.CommandFits (rename_words n (name_word name)) d → IsRename n name (lines.Asks d)
-rename_one n name small (asked.Rename key read) s =
+rename_one : (n : ℕ) (name : List ℕ) → n < 2 ^ 64 → (d : Command) → Spells command_words FitsCommand (rename_words n (name_word name)) d → IsRename n name (lines.Asks d)
+rename_one n name small (asked.Other (others.Rename key read)) s =
     let i = s.is in
     let k : decimal key ≡ decimal n = cc in
     let same : string_bytes read ≡ name_word name = cc in
@@ -200,48 +183,27 @@ rename_one n name small d s = absurd (other s.is refl)
 
 pub rename_reads : Global → (n : ℕ) (name rest : List ℕ) → n < 2 ^ 64 → BeginsWith Means (IsRename n name) (line_of (rename_words n (name_word name)) ++ rest) rest
 rename_reads g n name rest small =
-    asks_line said (IsRename n name) (asked.Rename n (text_of g name).0) (codes "rename") (decimal n ∷ name_word name ∷ []) rest (ap (rename_words n) (sym (text_of g name).1)) refl (small, subst IsName (sym (text_of g name).1) (is_name name))
+    asks_line said (IsRename n name) (asked.Other (others.Rename n (text_of g name).0)) (codes "rename") (decimal n ∷ name_word name ∷ []) rest (ap (rename_words n) (sym (text_of g name).1)) tt (small, subst IsName (sym (text_of g name).1) (is_name name))
     (clean_text (codes "rename") refl, (clean_decimal n small, (clean_name name, tt))) (λ e. absurd (omega arith)) (rename_one n name small)
 
-free_one : (n : ℕ) → n < 2 ^ 64 → (d : Command) → Spells command.words command.CommandFits (command.words (asked.Free n)) d → d ≡ asked.Free n
-free_one n small (asked.Free key) s =
+release_one : (n : ℕ) → n < 2 ^ 64 → (d : Command) → Spells command_words FitsCommand (command_words (asked.Other (others.Release n))) d → d ≡ asked.Other (others.Release n)
+release_one n small (asked.Other (others.Release key)) s =
     let i = s.is in
     let k : decimal key ≡ decimal n = cc in
-    ap asked.Free (decimal_injective key n s.fits small k)
-free_one n small d s = absurd (other s.is refl)
-
-pub free_reads : (n : ℕ) (rest : List ℕ) → n < 2 ^ 64 → BeginsWith Means (λ l. l ≡ lines.Asks (asked.Free n)) (line_of (command.words (asked.Free n)) ++ rest) rest
-free_reads n rest small =
-    asks_line said (λ l. l ≡ lines.Asks (asked.Free n)) (asked.Free n) (codes "free") (decimal n ∷ []) rest refl refl small
-    (clean_text (codes "free") refl, (clean_decimal n small, tt)) (λ e. absurd (omega arith)) (λ d s. ap lines.Asks (free_one n small d s))
-
-release_one : (n : ℕ) → n < 2 ^ 64 → (d : Command) → Spells command.words command.CommandFits (command.words (asked.Release n)) d → d ≡ asked.Release n
-release_one n small (asked.Release key) s =
-    let i = s.is in
-    let k : decimal key ≡ decimal n = cc in
-    ap asked.Release (decimal_injective key n s.fits small k)
+    ap (λ (m : ℕ). asked.Other (others.Release m)) (decimal_injective key n s.fits small k)
 release_one n small d s = absurd (other s.is refl)
 
-pub release_reads : (n : ℕ) (rest : List ℕ) → n < 2 ^ 64 → BeginsWith Means (λ l. l ≡ lines.Asks (asked.Release n)) (line_of (command.words (asked.Release n)) ++ rest) rest
+pub release_reads : (n : ℕ) (rest : List ℕ) → n < 2 ^ 64 → BeginsWith Means (λ l. l ≡ lines.Asks (asked.Other (others.Release n))) (line_of (command_words (asked.Other (others.Release n))) ++ rest) rest
 release_reads n rest small =
-    asks_line said (λ l. l ≡ lines.Asks (asked.Release n)) (asked.Release n) (codes "release") (decimal n ∷ []) rest refl refl small
+    asks_line said (λ l. l ≡ lines.Asks (asked.Other (others.Release n))) (asked.Other (others.Release n)) (codes "release") (decimal n ∷ []) rest refl tt small
     (clean_text (codes "release") refl, (clean_decimal n small, tt)) (λ e. absurd (omega arith)) (λ d s. ap lines.Asks (release_one n small d s))
 
-budget_one : (t : ℕ) (b : Option ℕ) → t < 2 ^ 64 → FitsBudget b → (d : Command) → Spells command.words command.CommandFits (command.words (asked.SetBudget t b)) d → d ≡ asked.SetBudget t b
-budget_one t b small f (asked.SetBudget u c) s =
-    let i = s.is in
-    let k : decimal u ≡ decimal t = cc in
-    let w : budget_word b ≡ budget_word c = cc in
-    let same : u ≡ t = decimal_injective u t s.fits.0 small k in
-    let also : c ≡ b = budget-one b c f s.fits.1 w in
-    ap (λ (m : ℕ). asked.SetBudget m c) same ∙ ap (asked.SetBudget t) also
-budget_one t b small f d s = absurd (other s.is refl)
+pub free_reads : (n : ℕ) (rest : List ℕ) → n < 2 ^ 64 → BeginsWith Means (λ l. l ≡ lines.Asks (asked.Free n)) (line_of (free_words n) ++ rest) rest
+free_reads n rest small = free_line said n rest small
 
 pub budget_reads : (t : ℕ) (b : Option ℕ) (rest : List ℕ) → t < 2 ^ 64 → FitsBudget b
-    → BeginsWith Means (λ l. l ≡ lines.Asks (asked.SetBudget t b)) (line_of (command.words (asked.SetBudget t b)) ++ rest) rest
-budget_reads t b rest small f =
-    asks_line said (λ l. l ≡ lines.Asks (asked.SetBudget t b)) (asked.SetBudget t b) (codes "budget") (decimal t ∷ budget_word b ∷ []) rest refl refl (small, f)
-    (clean_text (codes "budget") refl, (clean_decimal t small, (clean_budget b f, tt))) (λ e. absurd (omega arith)) (λ d s. ap lines.Asks (budget_one t b small f d s))
+    → BeginsWith Means (λ l. l ≡ lines.Asks (asked.SetBudget t b)) (line_of (budget_words t b) ++ rest) rest
+budget_reads t b rest small f = budget_line said t b rest small f
 
 -- ---- settings
 

@@ -25,8 +25,9 @@ use Rattle.gpu_capture.specs.Line.{line_of, name_word}
 use Rattle.gpu_capture.specs.Requests.{committed_line}
 use Rattle.gpu_capture.specs.Words.{location_word}
 use Rattle.gpu_capture.proofs.Lines.{clean_decimal, clean_name}
-use Rattle.gpu_run.specs.declared.d3d12.command.Command.{Command}
-use Rattle.gpu_run.specs.declared.d3d12.command.Command.TheVariants as asked
+use Rattle.gpu_run.specs.D3D12Command.{Command}
+use Rattle.gpu_run.specs.declared.command.Command.TheVariants as asked
+use Rattle.gpu_run.specs.declared.d3d12.command.Other.TheVariants.{Create}
 use Rattle.gpu_run.specs.declared.d3d12.command.Memory.{Memory}
 use Rattle.gpu_run.specs.declared.d3d12.command.Memory.TheVariants.{Own, Placed}
 use Rattle.gpu_run.specs.declared.d3d12.command.WantedResource.{WantedResource}
@@ -42,7 +43,7 @@ use Rattle.gpu_trace_text.specs.D3D12Resource.{category_word, dimension_word, in
 use Rattle.gpu_trace_text.specs.Spelled.{Spells}
 use Rattle.gpu_trace_text.specs.declared.dialect.Line.TheVariants as lines
 use Rattle.gpu_trace_text.proofs.CapturedWords.{clean_text, clean_location, location-one, is_name, none_digits, text_of, first_differs, other}
-use Rattle.gpu_trace_text.proofs.D3D12Captured.{said, clean_category, category-same, category-one}
+use Rattle.gpu_trace_text.proofs.D3D12Captured.{said, command_words, FitsCommand, clean_category, category-same, category-one}
 use Rattle.gpu_trace_text.proofs.D3D12Meaning.{colon, comma, are_numbers}
 use Rattle.gpu_trace_text.proofs.D3D12Parts.{IsSmall, parts_of}
 use Rattle.gpu_trace_text.proofs.Reading.{asks_line}
@@ -122,7 +123,7 @@ wanted_fits g r f = record {
 abbrev create_words : (number : ℕ) → D3D12Request → List (List ℕ)
 create_words number r = committed_words number r.location (captured.category_word r.category) (whole_units r.size) (name_word r.name.now)
 
-spelled : (g : Global) (number : ℕ) (r : D3D12Request) → create_words number r ≡ command.words (asked.Create number (wanted_of g r))
+spelled : (g : Global) (number : ℕ) (r : D3D12Request) → create_words number r ≡ command.words (Create number (wanted_of g r))
 spelled g number r = rw (category-same r.category, one_digit, no_digit, (text_of g r.name.now).1) refl
 
 same_resource : (number : ℕ) (r : D3D12Request) (w : WantedResource) → r.size < 2 ^ 64 → FitsWanted w → create_words number r ≡ codes "create" ∷ decimal number ∷ wanted_words w → IsCommitted r w
@@ -160,8 +161,8 @@ same_resource number r w f h e =
       name = cc;
     }
 
-create_one : (n : ℕ) (r : D3D12Request) → n < 2 ^ 64 → r.size < 2 ^ 64 → (d : Command) → Spells command.words command.CommandFits (create_words n r) d → IsCreate n r (lines.Asks d)
-create_one n r small f (asked.Create key w) s =
+create_one : (n : ℕ) (r : D3D12Request) → n < 2 ^ 64 → r.size < 2 ^ 64 → (d : Command) → Spells command_words FitsCommand (create_words n r) d → IsCreate n r (lines.Asks d)
+create_one n r small f (asked.Other (Create key w)) s =
     let i = s.is in
     let k : decimal key ≡ decimal n = cc in
     let same : key ≡ n = decimal_injective key n s.fits.0 small k in
@@ -170,9 +171,9 @@ create_one n r small f d s = absurd (other s.is refl)
 
 pub create_reads : Global → (n : ℕ) (r : D3D12Request) (rest : List ℕ) → n < 2 ^ 64 → r.size < 2 ^ 64 → BeginsWith Means (IsCreate n r) (committed_line n r ++ rest) rest
 create_reads g n r rest small f =
-    asks_line said (IsCreate n r) (asked.Create n (wanted_of g r)) (codes "create")
+    asks_line said (IsCreate n r) (asked.Other (Create n (wanted_of g r))) (codes "create")
     (decimal n ∷ codes "committed" ∷ location_word r.location ∷ captured.category_word r.category ∷ codes "buffer" ∷ decimal (whole_units r.size)
-    ∷ codes "1" ∷ codes "1" ∷ codes "0" ∷ codes "state:0" ∷ codes "none" ∷ codes "none" ∷ name_word r.name.now ∷ []) rest (spelled g n r) refl (small, wanted_fits g r f) (
+    ∷ codes "1" ∷ codes "1" ∷ codes "0" ∷ codes "state:0" ∷ codes "none" ∷ codes "none" ∷ name_word r.name.now ∷ []) rest (spelled g n r) tt (small, wanted_fits g r f) (
       clean_text (codes "create") refl,
       (
         clean_decimal n small,

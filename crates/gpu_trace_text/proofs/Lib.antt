@@ -1,3 +1,4 @@
+pub mod Commands
 pub mod Sorts
 pub mod Hexed
 pub mod Settings

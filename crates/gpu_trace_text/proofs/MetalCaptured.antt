@@ -10,27 +10,29 @@ use Rattle.gpu_capture.specs.declared.capture.CaptureEnd.TheVariants.{Whole}
 use Rattle.gpu_capture.specs.CaptureState.{last_line}
 use Rattle.gpu_capture.specs.Metal.{metal_words}
 use Rattle.gpu_capture.specs.Line.{line_of, name_word}
-use Rattle.gpu_capture.specs.Words.{location_word, refusal_word, budget_word, alloc_words, move_words}
+use Rattle.gpu_capture.specs.Words.{location_word, refusal_word, alloc_words, budget_words, free_words, move_words}
 use Rattle.gpu_capture.proofs.Lines.{AreClean, clean_decimal, clean_name}
 use Rattle.gpu_run.specs.declared.metal.command.Request.{Request}
-use Rattle.gpu_run.specs.declared.metal.command.Command.{Command}
-use Rattle.gpu_run.specs.declared.metal.command.Command.TheVariants as asked
+use Rattle.gpu_run.specs.MetalCommand.{Command}
+use Rattle.gpu_run.specs.declared.command.Command.TheVariants as asked
+use Rattle.gpu_run.specs.declared.metal.command.Other.{Other}
+use Rattle.gpu_run.specs.declared.metal.command.Other.TheVariants as others
 use Rattle.gpu_block_session.specs.Words.{IsName}
-use Rattle.gpu_trace_text.specs.Ask.{FitsBudget}
 use Rattle.gpu_trace_text.specs.MetalCommand as command
+use Rattle.gpu_trace_text.specs.Command.{words, CommandFits, FitsBudget}
 use Rattle.gpu_trace_text.specs.Spelled.{Spells}
 use Rattle.gpu_trace_text.specs.MetalSetting as setting
-use Rattle.gpu_trace_text.specs.MetalLine.{Means, IsLook, look_words}
+use Rattle.gpu_trace_text.specs.MetalLine.{Means, look_words, LookFits}
 use Rattle.gpu_trace_text.specs.Dialect.{new_words, destroy_words}
-use Rattle.gpu_trace_text.specs.Captured.{BeginsWith}
-use Rattle.gpu_trace_text.specs.MetalCaptured.{FitsCaptured, IsRequest, IsAlloc, IsMove}
+use Rattle.gpu_trace_text.specs.Captured.{BeginsWith, IsAlloc, IsMove}
+use Rattle.gpu_trace_text.specs.MetalCaptured.{FitsCaptured, IsRequest}
 use Rattle.gpu_trace_text.specs.declared.device.setting.Setting.TheVariants as shared
 use Rattle.gpu_trace_text.specs.declared.metal.setting.Setting.{Setting}
 use Rattle.gpu_trace_text.specs.declared.metal.setting.Setting.TheVariants as settings
 use Rattle.gpu_trace_text.specs.declared.dialect.Line.TheVariants as lines
 use Rattle.gpu_trace_text.proofs.CapturedWords.{clean_text, clean_location, clean_budget, location-one, budget-one, is_name, text_of, other, clean_refusal}
 use Rattle.gpu_trace_text.proofs.Captured.{setting_one, shared_kind}
-use Rattle.gpu_trace_text.proofs.Reading.{Words, kinds, sets, ends, remarks, tells, asks_line, sets_line, new_line, destroy_line, ended_line}
+use Rattle.gpu_trace_text.proofs.Reading.{Words, IsOwn, kinds, sets, tells, asks_line, alloc_line, move_line, free_line, budget_line, sets_line, new_line, destroy_line, ended_line}
 use Rattle.gpu_trace_text.specs.declared.metal.line.Look.{Look}
 use Rattle.gpu_trace_text.specs.declared.metal.line.Look.TheVariants.{Members}
 use Rattle.gpu_capture.specs.Metal.{yes_word}
@@ -38,17 +40,9 @@ use Rattle.gpu_block_session.proofs.Canonical.{differ}
 
 -- ---- words
 
-command_kind : (c : Command) → kinds (command.words c) ≡ sets → ⊥
-command_kind (asked.Alloc key q) e = cc
-command_kind c e = cc
-
-command_ends : (c : Command) → kinds (command.words c) ≡ ends → ⊥
-command_ends (asked.Alloc key q) e = cc
-command_ends c e = cc
-
-command_remarks : (c : Command) → kinds (command.words c) ≡ remarks → ⊥
-command_remarks (asked.Alloc key q) e = cc
-command_remarks c e = cc
+own_kind : (o : Other) → IsOwn (kinds (command.words o))
+own_kind (others.Buffer key length location name) = tt
+own_kind o = tt
 
 setting_kind : (s : Setting) → kinds (setting.words s) ≡ sets
 setting_kind (settings.Sets b) = refl
@@ -74,20 +68,27 @@ own_setting_one (settings.Shared (shared.Heap size)) (settings.Sets b) f g e = a
 own_setting_one (settings.Shared (shared.Heap size)) (settings.Residency b) f g e = absurd (other e refl)
 own_setting_one s t f g e = absurd (other e refl)
 
-abbrev said : Words Setting Command Look
+abbrev said : Words Setting Request Other Look
 said = record {
   setting = setting.words;
   FitsSetting = setting.SettingFits;
-  command = command.words;
-  FitsCommand = command.CommandFits;
-  IsOther = IsLook;
+  request = command.request_words;
+  FitsRequest = command.FitsRequest;
+  own = command.words;
+  FitsOwn = command.OtherFits;
+  look = look_words;
+  FitsLook = LookFits;
   setting_kind = setting_kind;
-  command_kind = command_kind;
-  command_ends = command_ends;
-  command_remarks = command_remarks;
-  other_kind = λ ws l r. ap kinds r ∙ look_kind l;
+  own_kind = own_kind;
+  look_kind = look_kind;
   setting_one = own_setting_one;
 }
+
+abbrev pub command_words : Command → List (List ℕ)
+command_words = words command.request_words command.words
+
+abbrev pub FitsCommand : Command → Type 0
+FitsCommand = CommandFits command.FitsRequest command.OtherFits
 
 -- ---- requests
 
@@ -124,70 +125,31 @@ same_request r q f h e =
 
 -- ---- commands
 
-alloc_one : (n : ℕ) (r : MetalRequest) → n < 2 ^ 64 → FitsCaptured r → (d : Command) → Spells command.words command.CommandFits (alloc_words n (request_words r)) d → IsAlloc n r (lines.Asks d)
-alloc_one n r small f (asked.Alloc key q) s =
-    let i = s.is in
-    let k : decimal key ≡ decimal n = cc in
-    let e : request_words r ≡ command.request_words q = cc in
-    (decimal_injective key n s.fits.0 small k, same_request r q f s.fits.1 e)
-alloc_one n r small f d s = absurd (other s.is refl)
-
-pub alloc_reads : Global → (n : ℕ) (r : MetalRequest) (rest : List ℕ) → n < 2 ^ 64 → FitsCaptured r → BeginsWith Means (IsAlloc n r) (line_of (alloc_words n (request_words r)) ++ rest) rest
+pub alloc_reads : Global → (n : ℕ) (r : MetalRequest) (rest : List ℕ) → n < 2 ^ 64 → FitsCaptured r
+    → BeginsWith Means (IsAlloc n (IsRequest r)) (line_of (alloc_words n (request_words r)) ++ rest) rest
 alloc_reads g n r rest small f =
-    asks_line said (IsAlloc n r) (asked.Alloc n (request_of g r)) (codes "alloc") (decimal n ∷ request_words r) rest (ap (alloc_words n) (spelled g r)) refl (small, fits_request g r f)
-    (clean_text (codes "alloc") refl, (clean_decimal n small, clean_request r f)) (λ e. absurd (omega arith)) (alloc_one n r small f)
-
-move_one : (n m : ℕ) (r : MetalRequest) → n < 2 ^ 64 → m < 2 ^ 64 → FitsCaptured r → (d : Command) → Spells command.words command.CommandFits (move_words n m (request_words r)) d → IsMove n m r (lines.Asks d)
-move_one n m r small also f (asked.Move key to q) s =
-    let i = s.is in
-    let k : decimal key ≡ decimal n = cc in
-    let t : decimal to ≡ decimal m = cc in
-    let e : request_words r ≡ command.request_words q = cc in
-    (decimal_injective key n s.fits.0 small k, decimal_injective to m s.fits.1 also t, same_request r q f s.fits.2 e)
-move_one n m r small also f d s = absurd (other s.is refl)
+    alloc_line said (IsRequest r) n (request_of g r) (request_words r) rest small (fits_request g r f) (spelled g r) (clean_request r f) (λ q h e. same_request r q f h e)
 
 pub move_reads : Global → (n m : ℕ) (r : MetalRequest) (rest : List ℕ) → n < 2 ^ 64 → m < 2 ^ 64 → FitsCaptured r
-    → BeginsWith Means (IsMove n m r) (line_of (move_words n m (request_words r)) ++ rest) rest
+    → BeginsWith Means (IsMove n m (IsRequest r)) (line_of (move_words n m (request_words r)) ++ rest) rest
 move_reads g n m r rest small also f =
-    asks_line said (IsMove n m r) (asked.Move n m (request_of g r)) (codes "move") (decimal n ∷ decimal m ∷ request_words r) rest (ap (move_words n m) (spelled g r)) refl (small, also, fits_request g r f)
-    (clean_text (codes "move") refl, (clean_decimal n small, (clean_decimal m also, clean_request r f))) (λ e. absurd (omega arith)) (move_one n m r small also f)
+    move_line said (IsRequest r) n m (request_of g r) (request_words r) rest small also (fits_request g r f) (spelled g r) (clean_request r f) (λ q h e. same_request r q f h e)
 
-free_one : (n : ℕ) → n < 2 ^ 64 → (d : Command) → Spells command.words command.CommandFits (command.words (asked.Free n)) d → d ≡ asked.Free n
-free_one n small (asked.Free key) s =
-    let i = s.is in
-    let k : decimal key ≡ decimal n = cc in
-    ap asked.Free (decimal_injective key n s.fits small k)
-free_one n small d s = absurd (other s.is refl)
-
-pub free_reads : (n : ℕ) (rest : List ℕ) → n < 2 ^ 64 → BeginsWith Means (λ l. l ≡ lines.Asks (asked.Free n)) (line_of (command.words (asked.Free n)) ++ rest) rest
-free_reads n rest small =
-    asks_line said (λ l. l ≡ lines.Asks (asked.Free n)) (asked.Free n) (codes "free") (decimal n ∷ []) rest refl refl small
-    (clean_text (codes "free") refl, (clean_decimal n small, tt)) (λ e. absurd (omega arith)) (λ d s. ap lines.Asks (free_one n small d s))
-
-budget_one : (t : ℕ) (b : Option ℕ) → t < 2 ^ 64 → FitsBudget b → (d : Command) → Spells command.words command.CommandFits (command.words (asked.SetBudget t b)) d → d ≡ asked.SetBudget t b
-budget_one t b small f (asked.SetBudget u c) s =
-    let i = s.is in
-    let k : decimal u ≡ decimal t = cc in
-    let w : budget_word b ≡ budget_word c = cc in
-    let same : u ≡ t = decimal_injective u t s.fits.0 small k in
-    let also : c ≡ b = budget-one b c f s.fits.1 w in
-    ap (λ (m : ℕ). asked.SetBudget m c) same ∙ ap (asked.SetBudget t) also
-budget_one t b small f d s = absurd (other s.is refl)
-
-pub budget_reads : (t : ℕ) (b : Option ℕ) (rest : List ℕ) → t < 2 ^ 64 → FitsBudget b
-    → BeginsWith Means (λ l. l ≡ lines.Asks (asked.SetBudget t b)) (line_of (command.words (asked.SetBudget t b)) ++ rest) rest
-budget_reads t b rest small f =
-    asks_line said (λ l. l ≡ lines.Asks (asked.SetBudget t b)) (asked.SetBudget t b) (codes "budget") (decimal t ∷ budget_word b ∷ []) rest refl refl (small, f)
-    (clean_text (codes "budget") refl, (clean_decimal t small, (clean_budget b f, tt))) (λ e. absurd (omega arith)) (λ d s. ap lines.Asks (budget_one t b small f d s))
-
-commit_one : (d : Command) → Spells command.words command.CommandFits (command.words asked.Commit) d → d ≡ asked.Commit
-commit_one asked.Commit s = refl
+commit_one : (d : Command) → Spells command_words FitsCommand (command_words (asked.Other others.Commit)) d → d ≡ (asked.Other others.Commit)
+commit_one (asked.Other others.Commit) s = refl
 commit_one d s = absurd (other s.is refl)
 
-pub commit_reads : (rest : List ℕ) → BeginsWith Means (λ l. l ≡ lines.Asks asked.Commit) (line_of (codes "commit" ∷ []) ++ rest) rest
+pub commit_reads : (rest : List ℕ) → BeginsWith Means (λ l. l ≡ lines.Asks (asked.Other others.Commit)) (line_of (codes "commit" ∷ []) ++ rest) rest
 commit_reads rest =
-    asks_line said (λ l. l ≡ lines.Asks asked.Commit) asked.Commit (codes "commit") [] rest refl refl tt
+    asks_line said (λ l. l ≡ lines.Asks (asked.Other others.Commit)) (asked.Other others.Commit) (codes "commit") [] rest refl tt tt
     (clean_text (codes "commit") refl, tt) (λ e. absurd (omega arith)) (λ d s. ap lines.Asks (commit_one d s))
+
+pub free_reads : (n : ℕ) (rest : List ℕ) → n < 2 ^ 64 → BeginsWith Means (λ l. l ≡ lines.Asks (asked.Free n)) (line_of (free_words n) ++ rest) rest
+free_reads n rest small = free_line said n rest small
+
+pub budget_reads : (t : ℕ) (b : Option ℕ) (rest : List ℕ) → t < 2 ^ 64 → FitsBudget b
+    → BeginsWith Means (λ l. l ≡ lines.Asks (asked.SetBudget t b)) (line_of (budget_words t b) ++ rest) rest
+budget_reads t b rest small f = budget_line said t b rest small f
 
 -- ---- settings
 

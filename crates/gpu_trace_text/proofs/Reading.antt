@@ -1,27 +1,34 @@
 -- A line of words that a capture wrote is read as those words alone, in each sort of traces.
-use Rattle.std.proofs.Common.{◌≡◌, refl, sym, ap, ◌∙◌, subst, Bool, true, false, ℕ, List, [], ◌∷◌, ◌++◌, append-nil, arith}
+use Rattle.std.proofs.Common.{◌≡◌, refl, sym, ap, ◌∙◌, subst, Bool, true, false, ℕ, ◌<◌, ◌^◌, List, [], ◌∷◌, ◌++◌, Option, append-nil, arith}
 use Rattle.std.specs.Prelude.{codes}
+use Rattle.std.specs.Fmt.{decimal}
+use Rattle.std.proofs.lemmas.Fmt.{decimal_injective}
 use Rattle.std.specs.Str.{IsAscii, bytes_eq}
 use Rattle.gpu_capture.specs.declared.capture.CaptureEnd.{CaptureEnd}
 use Rattle.gpu_capture.specs.declared.capture.CaptureEnd.TheVariants.{Whole, TooLong, HostOutOfMemory}
 use Rattle.gpu_capture.specs.CaptureState.{last_line}
 use Rattle.gpu_capture.specs.Line.{line_of}
-use Rattle.gpu_capture.proofs.Lines.{AreClean, joined, joined-printed, lines-first, words-joined}
+use Rattle.gpu_capture.specs.Words.{budget_word, alloc_words, budget_words, free_words, move_words}
+use Rattle.gpu_capture.proofs.Lines.{AreClean, clean_decimal, joined, joined-printed, lines-first, words-joined}
 use Rattle.gpu_block_session.specs.Line.{IsBlank, IsRemark}
 use Rattle.gpu_block_session.specs.Run.{lines_of}
 use Rattle.gpu_block_session.specs.Words.{words_of}
-use Rattle.gpu_trace_text.specs.Captured.{BeginsWith}
+use Rattle.gpu_run.specs.declared.command.Command.{Command}
+use Rattle.gpu_run.specs.declared.command.Command.TheVariants as asked
+use Rattle.gpu_trace_text.specs.Captured.{BeginsWith, IsAlloc, IsMove}
+use Rattle.gpu_trace_text.specs.Command.{words, CommandFits, FitsBudget}
 use Rattle.gpu_trace_text.specs.Dialect as dialect
 use Rattle.gpu_trace_text.specs.Dialect.{new_words, destroy_words}
 use Rattle.gpu_trace_text.specs.Spelled.{Spells}
 use Rattle.gpu_trace_text.specs.declared.dialect.Line.{Line}
 use Rattle.gpu_trace_text.specs.declared.dialect.Line.TheVariants as lines
-use Rattle.gpu_trace_text.proofs.CapturedWords.{ascii, clean_text, clean_words, other}
+use Rattle.gpu_trace_text.proofs.CapturedWords.{ascii, budget-one, clean_budget, clean_text, clean_words, other}
 
--- what a line's first word tells: that a capture's command begins, or a setting, that configuration or trace end, that it is a remark, or none of
--- these
+-- what a line's first word tells: that a capture's command of any API begins, one of one API alone, or a setting, that configuration or trace
+-- end, that it is a remark, or none of these
 pub data Kind : Type 0 where
   asks : Kind
+  owns : Kind
   sets : Kind
   ends : Kind
   remarks : Kind
@@ -37,8 +44,8 @@ kind_of w =
     (choose (bytes_eq w (codes "move")) asks
     (choose (bytes_eq w (codes "free")) asks
     (choose (bytes_eq w (codes "budget")) asks
-    (choose (bytes_eq w (codes "rename")) asks
-    (choose (bytes_eq w (codes "commit")) asks
+    (choose (bytes_eq w (codes "rename")) owns
+    (choose (bytes_eq w (codes "commit")) owns
     (choose (bytes_eq w (codes "heap")) sets
     (choose (bytes_eq w (codes "type")) sets
     (choose (bytes_eq w (codes "granularity")) sets
@@ -48,8 +55,8 @@ kind_of w =
     (choose (bytes_eq w (codes "residency")) sets
     (choose (bytes_eq w (codes "tier")) sets
     (choose (bytes_eq w (codes "version")) sets
-    (choose (bytes_eq w (codes "release")) asks
-    (choose (bytes_eq w (codes "create")) asks
+    (choose (bytes_eq w (codes "release")) owns
+    (choose (bytes_eq w (codes "create")) owns
     (choose (bytes_eq w (codes "new")) ends
     (choose (bytes_eq w (codes "destroy")) ends
     (choose (bytes_eq w (codes "#")) remarks tells)))))))))))))))))))
@@ -57,6 +64,23 @@ kind_of w =
 abbrev pub kinds : List (List ℕ) → Kind
 kinds [] = tells
 kinds (w ∷ ws) = kind_of w
+
+-- what one API alone asks for
+abbrev pub IsOwn : Kind → Type 0
+IsOwn owns = Unit {0}
+IsOwn tells = Unit {0}
+IsOwn k = ⊥
+
+-- what a command begins with
+abbrev pub IsCommand : Kind → Type 0
+IsCommand asks = Unit {0}
+IsCommand k = IsOwn k
+
+-- the same of one that a capture writes
+abbrev pub IsWritten : Kind → Type 0
+IsWritten asks = Unit {0}
+IsWritten owns = Unit {0}
+IsWritten k = ⊥
 
 -- the words behind `#` of what ends a capture early
 abbrev too_long : List (List ℕ)
@@ -67,33 +91,55 @@ too_long =
 abbrev no_memory : List (List ℕ)
 no_memory = codes "the" ∷ codes "capture" ∷ codes "ends" ∷ codes "here:" ∷ codes "no" ∷ codes "host" ∷ codes "memory" ∷ codes "for" ∷ codes "the" ∷ codes "next" ∷ codes "call" ∷ []
 
--- the words of one sort of traces
-pub record Words (S C O : Type 0) : Type 1 where
+-- the words of one sort of traces: of settings, of what is asked for an allocation, of what one API alone asks for, and of what is told beside
+pub record Words (S R A O : Type 0) : Type 1 where
   pub setting : S → List (List ℕ)
   pub FitsSetting : S → Type 0
-  pub command : C → List (List ℕ)
-  pub FitsCommand : C → Type 0
-  pub IsOther : List (List ℕ) → O → Type 0
+  pub request : R → List (List ℕ)
+  pub FitsRequest : R → Type 0
+  pub own : A → List (List ℕ)
+  pub FitsOwn : A → Type 0
+  pub look : O → List (List ℕ)
+  pub FitsLook : O → Type 0
   pub setting_kind : (s : S) → kinds (setting s) ≡ sets
-  pub command_kind : (c : C) → kinds (command c) ≡ sets → ⊥
-  pub command_ends : (c : C) → kinds (command c) ≡ ends → ⊥
-  pub command_remarks : (c : C) → kinds (command c) ≡ remarks → ⊥
-  pub other_kind : (ws : List (List ℕ)) (o : O) → IsOther ws o → kinds ws ≡ tells
+  pub own_kind : (a : A) → IsOwn (kinds (own a))
+  pub look_kind : (o : O) → kinds (look o) ≡ tells
   pub setting_one : (s t : S) → FitsSetting s → FitsSetting t → setting s ≡ setting t → t ≡ s
 
-module _ {S C O : Type 0} (w : Words S C O) where
-  abbrev Reads : List (List ℕ) → Line S C O → Type 0
-  Reads = dialect.Reads (Spells w.setting w.FitsSetting) (Spells w.command w.FitsCommand) w.IsOther
+own_command : (k : Kind) → IsOwn k → IsCommand k
+own_command owns h = tt
+own_command tells h = tt
+own_command k h = absurd h
 
-  abbrev Means : List ℕ → Line S C O → Type 0
-  Means = dialect.Means (Spells w.setting w.FitsSetting) (Spells w.command w.FitsCommand) w.IsOther
+module _ {S R A O : Type 0} (w : Words S R A O) where
+  abbrev Asked : Type 0
+  Asked = Command R A
 
-  reads_words : (line : List ℕ) (ws : List (List ℕ)) → words_of line ≡ ws → IsAscii line → (IsRemark line → ⊥) → (l : Line S C O) → Means line l → Reads ws l
+  abbrev Said : Type 0
+  Said = Line S (Command R A) O
+
+  abbrev command : Command R A → List (List ℕ)
+  command = words w.request w.own
+
+  abbrev FitsCommand : Command R A → Type 0
+  FitsCommand = CommandFits w.FitsRequest w.FitsOwn
+
+  abbrev Reads : List (List ℕ) → Said → Type 0
+  Reads = dialect.Reads (Spells w.setting w.FitsSetting) (Spells command FitsCommand) (Spells w.look w.FitsLook)
+
+  abbrev Means : List ℕ → Said → Type 0
+  Means = dialect.Means (Spells w.setting w.FitsSetting) (Spells command FitsCommand) (Spells w.look w.FitsLook)
+
+  command_kind : (c : Asked) → IsCommand (kinds (command c))
+  command_kind (asked.Other a) = own_command (kinds (w.own a)) (w.own_kind a)
+  command_kind c = tt
+
+  reads_words : (line : List ℕ) (ws : List (List ℕ)) → words_of line ≡ ws → IsAscii line → (IsRemark line → ⊥) → (l : Said) → Means line l → Reads ws l
   reads_words line ws is fine plain lines.Blank m = absurd (plain m.remark)
   reads_words line ws is fine plain lines.Bad m = subst (λ (vs : List (List ℕ)). Reads vs lines.Bad) is (m.says fine)
   reads_words line ws is fine plain l m = subst (λ (vs : List (List ℕ)). Reads vs l) is m.reads
 
-  begins : (Is : Line S C O → Type 0) (v : List ℕ) (ws : List (List ℕ)) (rest : List ℕ) → AreClean (v ∷ ws) → (IsRemark (joined (v ∷ ws)) → ⊥) → ((l : Line S C O) → Reads (v ∷ ws) l → Is l)
+  begins : (Is : Said → Type 0) (v : List ℕ) (ws : List (List ℕ)) (rest : List ℕ) → AreClean (v ∷ ws) → (IsRemark (joined (v ∷ ws)) → ⊥) → ((l : Said) → Reads (v ∷ ws) l → Is l)
       → BeginsWith Means Is (line_of (v ∷ ws) ++ rest) rest
   begins Is v ws rest clean plain reads = record {
     line = joined (v ∷ ws);
@@ -103,26 +149,95 @@ module _ {S C O : Type 0} (w : Words S C O) where
   }
 
   -- a command's words are read as a command's of the same words
-  asked_only : (c : C) (ws : List (List ℕ)) → ws ≡ w.command c → kinds ws ≡ asks → w.FitsCommand c → (l : Line S C O) → Reads ws l
-      → (d : C) × (l ≡ lines.Asks d) × Spells w.command w.FitsCommand ws d
+  asked_only : (c : Asked) (ws : List (List ℕ)) → ws ≡ command c → IsWritten (kinds ws) → FitsCommand c → (l : Said) → Reads ws l
+      → (d : Asked) × (l ≡ lines.Asks d) × Spells command FitsCommand ws d
   asked_only c ws is k f lines.Blank r = absurd r
-  asked_only c ws is k f (lines.Configures s) r = let e : asks ≡ sets = sym k ∙ (ap kinds r.is ∙ w.setting_kind s) in cc
-  asked_only c ws is k f (lines.Asks d) r = (d, refl, r)
-  asked_only c ws is k f (lines.Other o) r = let e : asks ≡ tells = sym k ∙ w.other_kind ws o r in cc
+  asked_only c ws is k f (lines.Configures s) r = absurd (subst IsWritten (ap kinds r.is ∙ w.setting_kind s) k)
+  asked_only c ws is k f (lines.Asks d) r = (d, refl, r.says)
+  asked_only c ws is k f (lines.Other o) r = absurd (subst IsWritten (ap kinds r.is ∙ w.look_kind o) k)
   asked_only c ws is k f lines.Bad r = absurd (r.command c (record { is = is; fits = f }))
-  asked_only c ws is k f l r = let e : asks ≡ ends = sym k ∙ ap kinds r in cc
+  asked_only c ws is k f l r = absurd (subst IsWritten (ap kinds r) k)
 
   -- a line of a command that a capture wrote
-  pub asks_line : (Is : Line S C O → Type 0) (c : C) (v : List ℕ) (ws : List (List ℕ)) (rest : List ℕ) → v ∷ ws ≡ w.command c → kind_of v ≡ asks → w.FitsCommand c → AreClean (v ∷ ws)
-      → (IsRemark (joined (v ∷ ws)) → ⊥) → ((d : C) → Spells w.command w.FitsCommand (v ∷ ws) d → Is (lines.Asks d)) → BeginsWith Means Is (line_of (v ∷ ws) ++ rest) rest
+  pub asks_line : (Is : Said → Type 0) (c : Asked) (v : List ℕ) (ws : List (List ℕ)) (rest : List ℕ) → v ∷ ws ≡ command c → IsWritten (kind_of v) → FitsCommand c → AreClean (v ∷ ws)
+      → (IsRemark (joined (v ∷ ws)) → ⊥) → ((d : Asked) → Spells command FitsCommand (v ∷ ws) d → Is (lines.Asks d)) → BeginsWith Means Is (line_of (v ∷ ws) ++ rest) rest
   asks_line Is c v ws rest is k f clean plain one =
       begins Is v ws rest clean plain (λ l reads. let found = asked_only c (v ∷ ws) is k f l reads in subst Is (sym found.1) (one found.0 found.2))
 
-  setting_closes : (s : S) → w.FitsSetting s → (l : Line S C O) → Reads (w.setting s) l → l ≡ lines.Configures s
+  -- ---- commands of any API
+
+  alloc_one : (Is : R → Type 0) (n : ℕ) (ws : List (List ℕ)) → n < 2 ^ 64 → ((q : R) → w.FitsRequest q → ws ≡ w.request q → Is q) → (d : Asked)
+      → Spells command FitsCommand (alloc_words n ws) d → IsAlloc {S = S} {O = O} n Is (lines.Asks d)
+  alloc_one Is n ws small one (asked.Alloc key q) s =
+      let i = s.is in
+      let k : decimal key ≡ decimal n = cc in
+      let e : ws ≡ w.request q = cc in
+      (decimal_injective key n s.fits.0 small k, one q s.fits.1 e)
+  alloc_one Is n ws small one (asked.Other a) s = absurd (subst IsOwn (sym (ap kinds s.is)) (w.own_kind a))
+  alloc_one Is n ws small one d s = absurd (other s.is refl)
+
+  -- an allocation, whose request has these words
+  pub alloc_line : (Is : R → Type 0) (n : ℕ) (q : R) (ws : List (List ℕ)) (rest : List ℕ) → n < 2 ^ 64 → w.FitsRequest q → ws ≡ w.request q → AreClean ws
+      → ((p : R) → w.FitsRequest p → ws ≡ w.request p → Is p) → BeginsWith Means (IsAlloc n Is) (line_of (alloc_words n ws) ++ rest) rest
+  alloc_line Is n q ws rest small fits is clean one =
+      asks_line (IsAlloc n Is) (asked.Alloc n q) (codes "alloc") (decimal n ∷ ws) rest (ap (alloc_words n) is) tt (small, fits)
+      (clean_text (codes "alloc") refl, (clean_decimal n small, clean)) (λ e. absurd (omega arith)) (alloc_one Is n ws small one)
+
+  move_one : (Is : R → Type 0) (n m : ℕ) (ws : List (List ℕ)) → n < 2 ^ 64 → m < 2 ^ 64 → ((q : R) → w.FitsRequest q → ws ≡ w.request q → Is q) → (d : Asked)
+      → Spells command FitsCommand (move_words n m ws) d → IsMove {S = S} {O = O} n m Is (lines.Asks d)
+  move_one Is n m ws small also one (asked.Move key to q) s =
+      let i = s.is in
+      let k : decimal key ≡ decimal n = cc in
+      let t : decimal to ≡ decimal m = cc in
+      let e : ws ≡ w.request q = cc in
+      (decimal_injective key n s.fits.0 small k, decimal_injective to m s.fits.1 also t, one q s.fits.2 e)
+  move_one Is n m ws small also one (asked.Other a) s = absurd (subst IsOwn (sym (ap kinds s.is)) (w.own_kind a))
+  move_one Is n m ws small also one d s = absurd (other s.is refl)
+
+  -- a second place
+  pub move_line : (Is : R → Type 0) (n m : ℕ) (q : R) (ws : List (List ℕ)) (rest : List ℕ) → n < 2 ^ 64 → m < 2 ^ 64 → w.FitsRequest q → ws ≡ w.request q → AreClean ws
+      → ((p : R) → w.FitsRequest p → ws ≡ w.request p → Is p) → BeginsWith Means (IsMove n m Is) (line_of (move_words n m ws) ++ rest) rest
+  move_line Is n m q ws rest small also fits is clean one =
+      asks_line (IsMove n m Is) (asked.Move n m q) (codes "move") (decimal n ∷ decimal m ∷ ws) rest (ap (move_words n m) is) tt (small, also, fits)
+      (clean_text (codes "move") refl, (clean_decimal n small, (clean_decimal m also, clean))) (λ e. absurd (omega arith)) (move_one Is n m ws small also one)
+
+  free_one : (n : ℕ) → n < 2 ^ 64 → (d : Asked) → Spells command FitsCommand (free_words n) d → d ≡ asked.Free n
+  free_one n small (asked.Free key) s =
+      let i = s.is in
+      let k : decimal key ≡ decimal n = cc in
+      ap asked.Free (decimal_injective key n s.fits small k)
+  free_one n small (asked.Other a) s = absurd (subst IsOwn (sym (ap kinds s.is)) (w.own_kind a))
+  free_one n small d s = absurd (other s.is refl)
+
+  pub free_line : (n : ℕ) (rest : List ℕ) → n < 2 ^ 64 → BeginsWith Means (λ l. l ≡ lines.Asks (asked.Free n)) (line_of (free_words n) ++ rest) rest
+  free_line n rest small =
+      asks_line (λ l. l ≡ lines.Asks (asked.Free n)) (asked.Free n) (codes "free") (decimal n ∷ []) rest refl tt small
+      (clean_text (codes "free") refl, (clean_decimal n small, tt)) (λ e. absurd (omega arith)) (λ d s. ap lines.Asks (free_one n small d s))
+
+  budget_one : (t : ℕ) (b : Option ℕ) → t < 2 ^ 64 → FitsBudget b → (d : Asked) → Spells command FitsCommand (budget_words t b) d → d ≡ asked.SetBudget t b
+  budget_one t b small f (asked.SetBudget u c) s =
+      let i = s.is in
+      let k : decimal u ≡ decimal t = cc in
+      let v : budget_word b ≡ budget_word c = cc in
+      let same : u ≡ t = decimal_injective u t s.fits.0 small k in
+      let also : c ≡ b = budget-one b c f s.fits.1 v in
+      ap (λ (m : ℕ). asked.SetBudget m c) same ∙ ap (asked.SetBudget t) also
+  budget_one t b small f (asked.Other a) s = absurd (subst IsOwn (sym (ap kinds s.is)) (w.own_kind a))
+  budget_one t b small f d s = absurd (other s.is refl)
+
+  pub budget_line : (t : ℕ) (b : Option ℕ) (rest : List ℕ) → t < 2 ^ 64 → FitsBudget b
+      → BeginsWith Means (λ l. l ≡ lines.Asks (asked.SetBudget t b)) (line_of (budget_words t b) ++ rest) rest
+  budget_line t b rest small f =
+      asks_line (λ l. l ≡ lines.Asks (asked.SetBudget t b)) (asked.SetBudget t b) (codes "budget") (decimal t ∷ budget_word b ∷ []) rest refl tt (small, f)
+      (clean_text (codes "budget") refl, (clean_decimal t small, (clean_budget b f, tt))) (λ e. absurd (omega arith)) (λ d s. ap lines.Asks (budget_one t b small f d s))
+
+  -- ---- the other lines
+
+  setting_closes : (s : S) → w.FitsSetting s → (l : Said) → Reads (w.setting s) l → l ≡ lines.Configures s
   setting_closes s f lines.Blank r = absurd r
   setting_closes s f (lines.Configures t) r = ap lines.Configures (w.setting_one s t f r.fits r.is)
-  setting_closes s f (lines.Asks c) r = absurd (w.command_kind c (ap kinds (sym r.is) ∙ w.setting_kind s))
-  setting_closes s f (lines.Other o) r = let e : sets ≡ tells = sym (w.setting_kind s) ∙ w.other_kind (w.setting s) o r in cc
+  setting_closes s f (lines.Asks c) r = absurd (subst IsCommand (ap kinds (sym r.says.is) ∙ w.setting_kind s) (command_kind c))
+  setting_closes s f (lines.Other o) r = let e : sets ≡ tells = sym (w.setting_kind s) ∙ (ap kinds r.is ∙ w.look_kind o) in cc
   setting_closes s f lines.Bad r = absurd (r.setting s (record { is = refl; fits = f }))
   setting_closes s f l r = let e : sets ≡ ends = sym (w.setting_kind s) ∙ ap kinds r in cc
 
@@ -133,21 +248,21 @@ module _ {S C O : Type 0} (w : Words S C O) where
       subst (λ (vs : List (List ℕ)). BeginsWith Means (λ l. l ≡ lines.Configures s) (line_of vs ++ rest) rest) (sym is)
       (begins (λ l. l ≡ lines.Configures s) v ws rest clean plain (λ l reads. setting_closes s f l (subst (λ (vs : List (List ℕ)). Reads vs l) (sym is) reads)))
 
-  new_closes : (l : Line S C O) → Reads new_words l → l ≡ lines.New
+  new_closes : (l : Said) → Reads new_words l → l ≡ lines.New
   new_closes lines.Blank r = absurd r
   new_closes (lines.Configures s) r = let e : ends ≡ sets = ap kinds r.is ∙ w.setting_kind s in cc
   new_closes lines.New r = refl
-  new_closes (lines.Asks c) r = absurd (w.command_ends c (ap kinds (sym r.is)))
-  new_closes (lines.Other o) r = let e : ends ≡ tells = w.other_kind new_words o r in cc
+  new_closes (lines.Asks c) r = absurd (subst IsCommand (ap kinds (sym r.says.is)) (command_kind c))
+  new_closes (lines.Other o) r = let e : ends ≡ tells = ap kinds r.is ∙ w.look_kind o in cc
   new_closes lines.Destroy r = absurd (other r refl)
   new_closes lines.Bad r = absurd (r.new refl)
 
-  destroy_closes : (l : Line S C O) → Reads destroy_words l → l ≡ lines.Destroy
+  destroy_closes : (l : Said) → Reads destroy_words l → l ≡ lines.Destroy
   destroy_closes lines.Blank r = absurd r
   destroy_closes (lines.Configures s) r = let e : ends ≡ sets = ap kinds r.is ∙ w.setting_kind s in cc
   destroy_closes lines.New r = absurd (other r refl)
-  destroy_closes (lines.Asks c) r = absurd (w.command_ends c (ap kinds (sym r.is)))
-  destroy_closes (lines.Other o) r = let e : ends ≡ tells = w.other_kind destroy_words o r in cc
+  destroy_closes (lines.Asks c) r = absurd (subst IsCommand (ap kinds (sym r.says.is)) (command_kind c))
+  destroy_closes (lines.Other o) r = let e : ends ≡ tells = ap kinds r.is ∙ w.look_kind o in cc
   destroy_closes lines.Destroy r = refl
   destroy_closes lines.Bad r = absurd (r.destroy refl)
 
@@ -160,12 +275,12 @@ module _ {S C O : Type 0} (w : Words S C O) where
   destroy_line rest = begins (λ l. l ≡ lines.Destroy) (codes "destroy") [] rest (clean_text (codes "destroy") refl, tt) (λ e. absurd (omega arith)) destroy_closes
 
   -- ---- a remark
-  remark_closes : (line : List ℕ) (ws : List (List ℕ)) → words_of line ≡ codes "#" ∷ ws → IsBlank line → (l : Line S C O) → Means line l → l ≡ lines.Blank
+  remark_closes : (line : List ℕ) (ws : List (List ℕ)) → words_of line ≡ codes "#" ∷ ws → IsBlank line → (l : Said) → Means line l → l ≡ lines.Blank
   remark_closes line ws is blank lines.Blank m = refl
   remark_closes line ws is blank lines.Bad m = absurd (m.gives blank)
   remark_closes line ws is blank (lines.Configures s) m = let e : remarks ≡ sets = sym (ap kinds is) ∙ (ap kinds m.reads.is ∙ w.setting_kind s) in cc
-  remark_closes line ws is blank (lines.Asks c) m = absurd (w.command_remarks c (ap kinds (sym m.reads.is) ∙ ap kinds is))
-  remark_closes line ws is blank (lines.Other o) m = let e : remarks ≡ tells = sym (ap kinds is) ∙ w.other_kind (words_of line) o m.reads in cc
+  remark_closes line ws is blank (lines.Asks c) m = absurd (subst IsCommand (ap kinds (sym m.reads.says.is) ∙ ap kinds is) (command_kind c))
+  remark_closes line ws is blank (lines.Other o) m = let e : remarks ≡ tells = sym (ap kinds is) ∙ (ap kinds m.reads.is ∙ w.look_kind o) in cc
   remark_closes line ws is blank lines.New m = let e : remarks ≡ ends = sym (ap kinds is) ∙ ap kinds m.reads in cc
   remark_closes line ws is blank lines.Destroy m = let e : remarks ≡ ends = sym (ap kinds is) ∙ ap kinds m.reads in cc
 

@@ -3,8 +3,9 @@ use Rattle.std.proofs.Common.{◌≡◌, refl, sym, ap, ◌∙◌, subst, Bool, 
 use Rattle.std.specs.Prelude.{codes}
 use Rattle.std.specs.List.{onto_first}
 use Rattle.std.specs.Str.{bytes_eq}
-use Rattle.gpu_run.specs.declared.vulkan.command.Command as asks_commands
-use Rattle.gpu_run.specs.declared.vulkan.command.Command.TheVariants as asked
+use Rattle.gpu_run.specs.declared.command.Command.TheVariants as asked
+use Rattle.gpu_run.specs.declared.vulkan.command.Other.{Other}
+use Rattle.gpu_run.specs.declared.vulkan.command.Other.TheVariants as others
 use Rattle.gpu_block_session.specs.declared.block.command.Command as block_commands
 use Rattle.gpu_block_session.specs.declared.block.command.Command.TheVariants as blocks
 use Rattle.gpu_trace_text.specs.declared.device.setting.Setting as settings
@@ -18,6 +19,7 @@ use Rattle.gpu_block_session.specs.Words.{words_of}
 use Rattle.gpu_block_session.specs.BlockWords as block
 use Rattle.gpu_trace_text.specs.Setting as setting
 use Rattle.gpu_trace_text.specs.Ask as ask
+use Rattle.gpu_trace_text.specs.Command.{words, CommandFits}
 use Rattle.gpu_block_session.specs.Line.{IsBlank, IsRemark}
 use Rattle.gpu_trace_text.specs.Dialect as dialect
 use Rattle.gpu_trace_text.specs.Line.{Line, Reads, Means}
@@ -28,7 +30,7 @@ use Rattle.gpu_trace_text.specs.Stage.{Admits, AdmitsSort, Does}
 use Rattle.gpu_trace_text.specs.BlockOrDevice.{AnyStageServes}
 
 abbrev IsSaid : List ℕ → Line → Type 0
-IsSaid = dialect.IsSaid (Spells setting.words setting.SettingFits) (Spells ask.words ask.CommandFits) block.Spells
+IsSaid = dialect.IsSaid (Spells setting.words setting.SettingFits) (Spells (words ask.request_words ask.words) (CommandFits ask.FitsRequest ask.OtherFits)) (Spells block.words block.CommandFits)
 
 abbrev pub choose : Bool → Sort → Sort → Sort
 choose true a b = a
@@ -76,10 +78,9 @@ of_setting (Granularity bytes) = refl
 of_setting (Sizes device host max_device max_host) = refl
 of_setting (Refuse question refusal) = refl
 
--- `report` is read as a line of block traces
-pub of_ask : (c : asks_commands.Command) → ask.CommandFits c → by_words (ask.words c) ≡ asks
-of_ask asked.Report f = absurd f
-of_ask c f = refl
+of_other : (o : Other) → by_words (ask.words o) ≡ asks
+of_other (others.Null key) = refl
+of_other o = refl
 
 -- a reading that says something
 abbrev pub Says : Line → Type 0
@@ -92,7 +93,10 @@ sort_read ws lines.Blank s r = absurd s
 sort_read ws (lines.Other c) s r = ap by_words r.is ∙ of_command c
 sort_read ws (lines.Configures c) s r = ap by_words r.is ∙ of_setting c
 sort_read ws lines.New s r = ap by_words r
-sort_read ws (lines.Asks c) s r = ap by_words r.is ∙ of_ask c r.fits
+-- `report` is read as a line of block traces
+sort_read ws (lines.Asks asked.Report) s r = absurd (r.alone blocks.Report (record { is = r.says.is; fits = tt }))
+sort_read ws (lines.Asks (asked.Other o)) s r = ap by_words r.says.is ∙ of_other o
+sort_read ws (lines.Asks c) s r = ap by_words r.says.is
 sort_read ws lines.Destroy s r = ap by_words r
 sort_read ws lines.Bad s r = absurd s
 
@@ -143,7 +147,7 @@ nothing_beside stage line lines.Blank bad means a = bad.gives means
 nothing_beside stage line (lines.Other c) bad means a = (bad.says means.ascii).other c means.reads
 nothing_beside stage line (lines.Configures c) bad means a = (bad.says means.ascii).setting c means.reads
 nothing_beside stage line lines.New bad means a = (bad.says means.ascii).new means.reads
-nothing_beside stage line (lines.Asks c) bad means a = (bad.says means.ascii).command c means.reads
+nothing_beside stage line (lines.Asks c) bad means a = (bad.says means.ascii).command c means.reads.says
 nothing_beside stage line lines.Destroy bad means a = (bad.says means.ascii).destroy means.reads
 nothing_beside stage line lines.Bad bad means a = a
 

@@ -6,9 +6,9 @@ use Rattle.gpu_capture.specs.declared.device.VulkanDevice.{VulkanDevice}
 use Rattle.gpu_capture.specs.declared.request.Request.TheVariants.{Vulkan}
 use Rattle.gpu_capture.specs.History as calls
 use Rattle.gpu_capture.specs.History.{Call, RefusedQuestion}
-use Rattle.gpu_run.specs.declared.vulkan.command.Command.TheVariants.{Free, SetBudget}
-use Rattle.gpu_trace_text.specs.Ask.{FitsBudget}
-use Rattle.gpu_trace_text.specs.Captured.{FitsCaptured, IsAlloc, IsMove, IsRename}
+use Rattle.gpu_run.specs.declared.command.Command.TheVariants.{Free, SetBudget}
+use Rattle.gpu_trace_text.specs.Command.{FitsBudget}
+use Rattle.gpu_trace_text.specs.Captured.{FitsCaptured, IsRequest, IsAlloc, IsMove, IsRename}
 use Rattle.gpu_trace_text.specs.CapturedTrace.{FitsAnswer}
 use Rattle.gpu_trace_text.specs.Line.{Line}
 use Rattle.gpu_trace_text.specs.declared.device.setting.Setting.{Setting}
@@ -26,8 +26,8 @@ FitsCall c = ⊥
 
 -- the line asks for the same
 abbrev pub IsCall : Call → Line → Type 0
-IsCall (calls.Allocated number (Vulkan r) answers) l = IsAlloc number r l
-IsCall (calls.Moved from to (Vulkan r)) l = IsMove from to r l
+IsCall (calls.Allocated number (Vulkan r) answers) l = IsAlloc number (IsRequest r) l
+IsCall (calls.Moved from to (Vulkan r)) l = IsMove from to (IsRequest r) l
 IsCall (calls.Freed number) l = l ≡ lines.Asks (Free number)
 IsCall (calls.Renamed number name) l = IsRename number name l
 IsCall (calls.Bounded memory_type budget) l = l ≡ lines.Asks (SetBudget memory_type budget)

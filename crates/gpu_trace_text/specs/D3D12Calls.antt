@@ -11,12 +11,14 @@ use Rattle.gpu_capture.specs.D3D12.{whole_units}
 use Rattle.gpu_capture.specs.History as calls
 use Rattle.gpu_capture.specs.History.{Call, RefusedQuestion}
 use Rattle.gpu_capture.specs.Line.{name_word}
-use Rattle.gpu_run.specs.declared.d3d12.command.Command.TheVariants.{Create, Free, Release, SetBudget}
+use Rattle.gpu_run.specs.declared.command.Command.TheVariants.{Free, SetBudget, Other}
+use Rattle.gpu_run.specs.declared.d3d12.command.Other.TheVariants.{Create, Release}
 use Rattle.gpu_run.specs.declared.d3d12.command.Memory.TheVariants.{Own}
 use Rattle.gpu_run.specs.declared.d3d12.command.WantedResource.{WantedResource}
-use Rattle.gpu_trace_text.specs.Ask.{FitsBudget}
+use Rattle.gpu_trace_text.specs.Command.{FitsBudget}
 use Rattle.gpu_trace_text.specs.CapturedTrace.{FitsAnswer}
-use Rattle.gpu_trace_text.specs.D3D12Captured.{FitsCaptured, IsAlloc, IsMove, IsRename, category_of}
+use Rattle.gpu_trace_text.specs.Captured.{IsAlloc, IsMove}
+use Rattle.gpu_trace_text.specs.D3D12Captured.{FitsCaptured, IsRequest, IsRename, category_of}
 use Rattle.gpu_trace_text.specs.D3D12Line.{Line}
 use Rattle.gpu_trace_text.specs.D3D12Resource.{plain_desc}
 use Rattle.gpu_trace_text.specs.declared.d3d12.setting.Setting.{Setting}
@@ -37,7 +39,7 @@ pub record IsCommitted (r : D3D12Request) (w : WantedResource) : Type 0 where
 
 -- the line makes that committed resource under its number
 abbrev pub IsCreate : (number : ℕ) → D3D12Request → Line → Type 0
-IsCreate number r (lines.Asks (Create key w)) = (key ≡ number) × IsCommitted r w
+IsCreate number r (lines.Asks (Other (Create key w))) = (key ≡ number) × IsCommitted r w
 IsCreate number r _ = ⊥
 
 -- what a call's numbers and answers may be
@@ -53,11 +55,11 @@ FitsCall c = ⊥
 
 -- the line asks for the same
 abbrev pub IsCall : Call → Line → Type 0
-IsCall (calls.Allocated number (D3D12 r) answers) l = IsAlloc number r l
-IsCall (calls.Moved from to (D3D12 r)) l = IsMove from to r l
+IsCall (calls.Allocated number (D3D12 r) answers) l = IsAlloc number (IsRequest r) l
+IsCall (calls.Moved from to (D3D12 r)) l = IsMove from to (IsRequest r) l
 IsCall (calls.Committed number r answers) l = IsCreate number r l
 IsCall (calls.Freed number) l = l ≡ lines.Asks (Free number)
-IsCall (calls.Released number) l = l ≡ lines.Asks (Release number)
+IsCall (calls.Released number) l = l ≡ lines.Asks (Other (Release number))
 IsCall (calls.Renamed number name) l = IsRename number name l
 IsCall (calls.Bounded memory_type budget) l = l ≡ lines.Asks (SetBudget memory_type budget)
 IsCall c l = ⊥

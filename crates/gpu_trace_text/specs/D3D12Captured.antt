@@ -7,7 +7,8 @@ use Rattle.gpu_capture.specs.Line.{name_word}
 use Rattle.gpu_d3d12.specs.declared.category.ResourceCategory.{ResourceCategory}
 use Rattle.gpu_d3d12.specs.declared.category.ResourceCategory.TheVariants as categories
 use Rattle.gpu_run.specs.declared.d3d12.command.Request.{Request}
-use Rattle.gpu_run.specs.declared.d3d12.command.Command.TheVariants.{Alloc, Move, Rename}
+use Rattle.gpu_run.specs.declared.command.Command.TheVariants.{Other}
+use Rattle.gpu_run.specs.declared.d3d12.command.Other.TheVariants.{Rename}
 use Rattle.gpu_trace_text.specs.D3D12Line.{Line}
 use Rattle.gpu_trace_text.specs.declared.dialect.Line.TheVariants as lines
 
@@ -30,14 +31,6 @@ pub record IsRequest (r : D3D12Request) (q : Request) : Type 0 where
   pub category : q.category ≡ category_of r.category
   pub name : string_bytes q.name ≡ name_word r.name.now
 
-abbrev pub IsAlloc : (number : ℕ) → D3D12Request → Line → Type 0
-IsAlloc number r (lines.Asks (Alloc key q)) = (key ≡ number) × IsRequest r q
-IsAlloc number r _ = ⊥
-
-abbrev pub IsMove : (from to : ℕ) → D3D12Request → Line → Type 0
-IsMove from to r (lines.Asks (Move key second q)) = (key ≡ from) × (second ≡ to) × IsRequest r q
-IsMove from to r _ = ⊥
-
 abbrev pub IsRename : (number : ℕ) → (name : List ℕ) → Line → Type 0
-IsRename number name (lines.Asks (Rename key read)) = (key ≡ number) × (string_bytes read ≡ name_word name)
+IsRename number name (lines.Asks (Other (Rename key read))) = (key ≡ number) × (string_bytes read ≡ name_word name)
 IsRename number name _ = ⊥

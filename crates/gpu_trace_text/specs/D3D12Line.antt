@@ -1,7 +1,8 @@
 -- What a line of a DirectX 12 trace says, whatever came before it.
-use Rattle.std.specs.Prelude.{◌≡◌, ℕ, List, [], ◌∷◌, codes}
-use Rattle.gpu_run.specs.declared.d3d12.command.Command.{Command}
+use Rattle.std.specs.Prelude.{ℕ, List, [], ◌∷◌, codes}
+use Rattle.gpu_run.specs.D3D12Command.{Command}
 use Rattle.gpu_trace_text.specs.D3D12Command as command
+use Rattle.gpu_trace_text.specs.Command.{words, CommandFits}
 use Rattle.gpu_trace_text.specs.D3D12Setting as setting
 use Rattle.gpu_trace_text.specs.Dialect as dialect
 use Rattle.gpu_trace_text.specs.Spelled.{Spells}
@@ -18,10 +19,10 @@ Line = lines.Line Setting Command Look
 abbrev pub look_words : Look → List (List ℕ)
 look_words Asked = codes "asked" ∷ []
 
--- the words are this look's
-abbrev pub IsLook : List (List ℕ) → Look → Type 0
-IsLook words l = words ≡ look_words l
+-- any may be
+abbrev pub LookFits : Look → Type 0
+LookFits l = Unit {0}
 
 -- what a line says
 abbrev pub Means : List ℕ → Line → Type 0
-Means = dialect.Means (Spells setting.words setting.SettingFits) (Spells command.words command.CommandFits) IsLook
+Means = dialect.Means (Spells setting.words setting.SettingFits) (Spells (words command.request_words command.words) (CommandFits command.FitsRequest command.OtherFits)) (Spells look_words LookFits)

@@ -16,7 +16,7 @@ use Rattle.gpu_d3d12.specs.Setup.{tier_fault}
 use Rattle.gpu_d3d12.specs.declared.device_version.ID3D12DeviceVersion.{ID3D12DeviceVersion}
 use Rattle.gpu_d3d12.specs.State.{beside_of}
 use Rattle.gpu_run.specs.D3D12Served.{SessionValue, ServesCommand}
-use Rattle.gpu_run.specs.declared.d3d12.command.Command.{Command}
+use Rattle.gpu_run.specs.D3D12Command.{Command}
 use Rattle.gpu_sim_d3d12.specs.Scripted.{EndAsScripted}
 use Rattle.gpu_sim_d3d12.specs.Simulation.{properties_of, held_of, history_of, refused_of, latest_heap_of, latest_resource_of, removal_reason_of, plan_of}
 use Rattle.gpu_sim_d3d12.specs.declared.sim_d3d12.SimD3D12.{SimD3D12}

@@ -24,12 +24,17 @@ module _ {S C O : Type 0} (IsSetting : List (List ℕ) → S → Type 0) (IsComm
     pub new : words ≢ new_words
     pub destroy : words ≢ destroy_words
 
+  -- words that say a command, and nothing that only this sort of traces says
+  pub record IsAsked (words : List (List ℕ)) (c : C) : Type 0 where
+    pub says : IsCommand words c
+    pub alone : (o : O) → IsOther words o → ⊥
+
   -- what words say
   abbrev pub Reads : List (List ℕ) → Line S C O → Type 0
   Reads words lines.Blank = ⊥
   Reads words (lines.Configures s) = IsSetting words s
   Reads words lines.New = words ≡ new_words
-  Reads words (lines.Asks c) = IsCommand words c
+  Reads words (lines.Asks c) = IsAsked words c
   Reads words (lines.Other o) = IsOther words o
   Reads words lines.Destroy = words ≡ destroy_words
   Reads words lines.Bad = SaysNothing words

@@ -6,6 +6,7 @@ pub mod Hex
 pub mod Spelled
 pub mod Dialect
 pub mod Setting
+pub mod Command
 pub mod Ask
 pub mod DeviceReply
 pub mod Line

@@ -4,10 +4,12 @@ use Rattle.gpu_capture.specs.declared.device.BlockSizes.{BlockSizes}
 use Rattle.gpu_capture.specs.declared.request.Request.TheVariants.{Metal}
 use Rattle.gpu_capture.specs.History as calls
 use Rattle.gpu_capture.specs.History.{Call, RefusedQuestion}
-use Rattle.gpu_run.specs.declared.metal.command.Command.TheVariants.{Free, Commit, SetBudget}
-use Rattle.gpu_trace_text.specs.Ask.{FitsBudget}
+use Rattle.gpu_run.specs.declared.command.Command.TheVariants.{Free, SetBudget, Other}
+use Rattle.gpu_run.specs.declared.metal.command.Other.TheVariants.{Commit}
+use Rattle.gpu_trace_text.specs.Command.{FitsBudget}
 use Rattle.gpu_trace_text.specs.CapturedTrace.{FitsAnswer}
-use Rattle.gpu_trace_text.specs.MetalCaptured.{FitsCaptured, IsAlloc, IsMove}
+use Rattle.gpu_trace_text.specs.Captured.{IsAlloc, IsMove}
+use Rattle.gpu_trace_text.specs.MetalCaptured.{FitsCaptured, IsRequest}
 use Rattle.gpu_trace_text.specs.MetalLine.{Line}
 use Rattle.gpu_trace_text.specs.declared.metal.setting.Setting.{Setting}
 use Rattle.gpu_trace_text.specs.declared.metal.setting.Setting.TheVariants.{Residency, Shared}
@@ -25,11 +27,11 @@ FitsCall c = ⊥
 
 -- the line asks for the same
 abbrev pub IsCall : Call → Line → Type 0
-IsCall (calls.Allocated number (Metal r) answers) l = IsAlloc number r l
-IsCall (calls.Moved from to (Metal r)) l = IsMove from to r l
+IsCall (calls.Allocated number (Metal r) answers) l = IsAlloc number (IsRequest r) l
+IsCall (calls.Moved from to (Metal r)) l = IsMove from to (IsRequest r) l
 IsCall (calls.Freed number) l = l ≡ lines.Asks (Free number)
 IsCall (calls.Bounded memory_type budget) l = l ≡ lines.Asks (SetBudget memory_type budget)
-IsCall calls.SetCommitted l = l ≡ lines.Asks Commit
+IsCall calls.SetCommitted l = l ≡ lines.Asks (Other Commit)
 IsCall c l = ⊥
 
 -- a question that the device refused

@@ -1,8 +1,9 @@
 -- What a line of a Metal trace says, whatever came before it.
-use Rattle.std.specs.Prelude.{◌≡◌, ℕ, List, [], ◌∷◌, codes}
-use Rattle.gpu_run.specs.declared.metal.command.Command.{Command}
+use Rattle.std.specs.Prelude.{ℕ, List, [], ◌∷◌, codes}
+use Rattle.gpu_run.specs.MetalCommand.{Command}
 use Rattle.gpu_trace_text.specs.Dialect as dialect
 use Rattle.gpu_trace_text.specs.MetalCommand as command
+use Rattle.gpu_trace_text.specs.Command.{words, CommandFits}
 use Rattle.gpu_trace_text.specs.MetalSetting as setting
 use Rattle.gpu_trace_text.specs.Spelled.{Spells}
 use Rattle.gpu_trace_text.specs.declared.dialect.Line as lines
@@ -20,10 +21,10 @@ look_words Members = codes "members" ∷ []
 look_words Committed = codes "committed" ∷ []
 look_words Asked = codes "asked" ∷ []
 
--- the words are this look's
-abbrev pub IsLook : List (List ℕ) → Look → Type 0
-IsLook words l = words ≡ look_words l
+-- any may be
+abbrev pub LookFits : Look → Type 0
+LookFits l = Unit {0}
 
 -- what a line says
 abbrev pub Means : List ℕ → Line → Type 0
-Means = dialect.Means (Spells setting.words setting.SettingFits) (Spells command.words command.CommandFits) IsLook
+Means = dialect.Means (Spells setting.words setting.SettingFits) (Spells (words command.request_words command.words) (CommandFits command.FitsRequest command.OtherFits)) (Spells look_words LookFits)

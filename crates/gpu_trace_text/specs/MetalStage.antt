@@ -12,7 +12,7 @@ use Rattle.gpu_device.specs.declared.metal.types.MTLHeap.{MTLHeap}
 use Rattle.gpu_device.specs.declared.metal.types.MTLResidencySet.{MTLResidencySet}
 use Rattle.gpu_metal.specs.Blocks.{HoldsJustLiveBlocks, residency_of, left_behind}
 use Rattle.gpu_run.specs.MetalServed.{SessionValue, ServesCommand}
-use Rattle.gpu_run.specs.declared.metal.command.Command.{Command}
+use Rattle.gpu_run.specs.MetalCommand.{Command}
 use Rattle.gpu_metal.specs.MemoryKinds.{locations}
 use Rattle.gpu_metal.specs.Residency.{MakesSet}
 use Rattle.gpu_metal.specs.Setup.{IsNotMade}

@@ -19,7 +19,7 @@ fn serve<L: Log>(
 ) -> Result<(Stage, Outcome<Reply>), AllocError>
     ensures { IfOk result (λ r. AnyStageServes stage line.now r.1 r.0) }
 {
-    match read::<Stage>(alloc, line) {
+    match read(alloc, line) {
         Ok(line) => stage.serve(log, alloc, line),
         Err(error) => {
             let _ = stage.end(log);

@@ -3,5 +3,3 @@
 pub mod ask;
 pub mod reply;
 pub mod setting;
-
-pub(crate) use ask::command_of;

@@ -13,10 +13,10 @@ ghost use Rattle.gpu_capture.specs.CaptureState.{CaptureState, text};
 ghost use Rattle.gpu_capture.specs.Devices.{vulkan_lines};
 ghost use Rattle.gpu_capture.specs.History.{Call, Kept};
 ghost use Rattle.gpu_capture.specs.Keeps.{Keeps, blank, with_lines};
-ghost use Rattle.gpu_run.specs.declared.vulkan.command.Command.TheVariants.{Free, SetBudget};
+ghost use Rattle.gpu_run.specs.declared.command.Command.TheVariants.{Free, SetBudget};
 ghost use Rattle.gpu_trace_text.specs.Dialect.{new_words, destroy_words};
-ghost use Rattle.gpu_trace_text.specs.Ask.{FitsBudget};
-ghost use Rattle.gpu_trace_text.specs.Captured.{BeginsWith, FitsCaptured, IsAlloc, IsMove, IsRename};
+ghost use Rattle.gpu_trace_text.specs.Command.{FitsBudget};
+ghost use Rattle.gpu_trace_text.specs.Captured.{BeginsWith, FitsCaptured, IsRequest, IsAlloc, IsMove, IsRename};
 ghost use Rattle.gpu_trace_text.specs.Line.{Means};
 ghost use Rattle.gpu_trace_text.specs.Setting.{words as setting_words, SettingFits as FitsSetting};
 ghost use Rattle.gpu_trace_text.specs.declared.device.setting.Setting.{Setting};
@@ -30,7 +30,7 @@ use std::alloc::Global;
 #[tactic(auto, using(crate::proofs::Captured::alloc_reads))]
 pub fn allocation_reads_back(alloc: Global)
     ensures { (number : ℕ) (r : VulkanRequest) (rest : List ℕ) → number < 2 ^ 64 → FitsCaptured r
-        → BeginsWith Means (IsAlloc number r) (alloc_line number (Vulkan r) ++ rest) rest }
+        → BeginsWith Means (IsAlloc number (IsRequest r)) (alloc_line number (Vulkan r) ++ rest) rest }
 {}
 
 /// A second place that was asked for.
@@ -38,7 +38,7 @@ pub fn allocation_reads_back(alloc: Global)
 pub fn move_reads_back(alloc: Global)
     ensures { (from to : ℕ) (r : VulkanRequest) (rest : List ℕ) → from < 2 ^ 64 → to < 2 ^ 64
         → FitsCaptured r
-        → BeginsWith Means (IsMove from to r) (move_line from to (Vulkan r) ++ rest) rest }
+        → BeginsWith Means (IsMove from to (IsRequest r)) (move_line from to (Vulkan r) ++ rest) rest }
 {}
 
 /// A free.

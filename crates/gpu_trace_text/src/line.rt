@@ -1,48 +1,28 @@
 //! The words of block traces and device traces.
 
-use crate::device::setting::{Setting, setting_of};
-use crate::dialect::Dialect;
-use crate::stage::Stage;
-use crate::{device, dialect};
+use crate::device::setting::Setting;
+use crate::dialect;
+use crate::spelled::Spelled;
 use gpu_block_session::block::Command;
 use gpu_block_session::text;
 use gpu_run::vulkan::Command as Ask;
 use std::alloc::{AllocError, Global};
 
-/// What a line says: a setting or a command of a device trace, or a command of a block trace. `report` is one of device traces too.
+/// What a line says: a setting or a command of a device trace, or a command of a block trace. `report` is read as the latter.
 pub type Line = dialect::Line<Setting, Ask, Command>;
 
-impl Dialect for Stage {
-    ghost use Rattle.gpu_block_session.specs.BlockWords as block;
-    ghost use Rattle.gpu_trace_text.specs.Ask as ask;
-    ghost use Rattle.gpu_trace_text.specs.Setting as setting;
-    ghost use Rattle.gpu_trace_text.specs.Spelled.{Spells};
+impl Spelled for Command {
+    ghost use Rattle.gpu_block_session.specs.BlockWords.{words, CommandFits};
 
-    type Setting = Setting;
+    ghost spelling = { words };
 
-    type Command = Ask;
+    ghost Fits = { CommandFits };
 
-    type Other = Command;
-
-    ghost is_setting = { Spells setting.words setting.SettingFits };
-
-    ghost is_command = { Spells ask.words ask.CommandFits };
-
-    ghost is_other = { block.Spells };
-
-    fn setting(
-        alloc: Global,
-        verb: &str,
-        arguments: &[&str],
-    ) -> Result<Option<Setting>, AllocError> {
-        setting_of(alloc, verb, arguments)
-    }
-
-    fn command(alloc: Global, verb: &str, arguments: &[&str]) -> Result<Option<Ask>, AllocError> {
-        device::command_of(alloc, verb, arguments)
-    }
-
-    fn other(alloc: Global, verb: &str, arguments: &[&str]) -> Result<Option<Command>, AllocError> {
+    #[tactic(auto, using(crate::proofs::Commands::block_said))]
+    fn said(alloc: Global, words: &[&str]) -> Result<Option<Command>, AllocError> {
+        let [verb, arguments @ ..] = words else {
+            return Ok(None);
+        };
         text::command_of(alloc, verb, arguments)
     }
 }

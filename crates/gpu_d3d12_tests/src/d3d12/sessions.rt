@@ -3,12 +3,12 @@
 use super::resources::{IN_STATE, PROPERTIES};
 use super::*;
 use gpu_device::d3d12::HeapFlags;
-use gpu_run::d3d12::{Command, Memory, Reply, Request, Session, WantedResource};
+use gpu_run::d3d12::{Command, Memory, Other, Reply, Request, Session, WantedResource};
 use std::alloc::AllocError;
 
 /// Asks for a buffer of 65,536 bytes with this memory.
 fn create(alloc: Global, key: u64, name: String, memory: Memory) -> Command {
-    Command::Create {
+    Command::Other(Other::Create {
         key,
         wanted: WantedResource {
             name,
@@ -20,7 +20,7 @@ fn create(alloc: Global, key: u64, name: String, memory: Memory) -> Command {
             initial: IN_STATE,
             memory,
         },
-    }
+    })
 }
 
 /// Asks for a piece.
@@ -73,13 +73,13 @@ fn commands(alloc: Global, names: [String; 8]) -> [Command; 16] {
         create(alloc, 7, first, Memory::Placed),
         create(alloc, 8, second, own),
         create(alloc, 8, third, Memory::Placed),
-        Command::Committed { memory_type: 0 },
+        Command::Other(Other::Committed { memory_type: 0 }),
         Command::Report,
-        Command::Leaks,
+        Command::Other(Other::Leaks),
         Command::Capacity,
-        Command::Rename { key: 7, name: b },
-        Command::Release { key: 7 },
-        Command::Release { key: 7 },
+        Command::Other(Other::Rename { key: 7, name: b }),
+        Command::Other(Other::Release { key: 7 }),
+        Command::Other(Other::Release { key: 7 }),
         Command::Free { key: 7 },
         Command::SetBudget {
             memory_type: 3,

@@ -1,7 +1,7 @@
 //! A session's lists of commands, with ample memory.
 
 use super::*;
-use gpu_run::metal::{Command, Reply, Request, Session};
+use gpu_run::metal::{Command, Other, Reply, Request, Session};
 use std::alloc::AllocError;
 
 /// Asks for 100 bytes.
@@ -45,8 +45,8 @@ fn commands(names: [String; 4]) -> [Command; 10] {
         moved(7, 8, second),
         moved(7, 7, third),
         moved(8, 9, fourth),
-        Command::Heaps,
-        Command::Commit,
+        Command::Other(Other::Heaps),
+        Command::Other(Other::Commit),
         Command::Report,
         Command::SetBudget {
             memory_type: 3,

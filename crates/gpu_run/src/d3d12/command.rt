@@ -44,52 +44,21 @@ pub struct Request {
     pub name: String,
 }
 
-/// A command to a session. `key` is the caller's own number of an allocation, of a resource in `Create` and `Release`: one
-/// number may stand for one of both. Sizes and alignments are bytes.
+/// What only sessions of DirectX 12 are asked for. `key` is the caller's own number of an allocation, of a resource in `Create` and
+/// `Release`: one number may stand for one of both.
 #[derive(Drop)]
-pub enum Command {
-    /// Asks for a piece, and binds the number to it.
-    Alloc {
-        key: u64,
-        request: Request,
-    },
-    /// Asks for a second place of the allocation, by its request again, and binds the number `to` to it.
-    Move {
-        key: u64,
-        to: u64,
-        request: Request,
-    },
-    /// Frees the allocation; the number is free again.
-    Free {
-        key: u64,
-    },
+pub enum Other {
     /// Renames the allocation.
-    Rename {
-        key: u64,
-        name: String,
-    },
+    Rename { key: u64, name: String },
     /// Asks for a resource, and binds the number to it.
-    Create {
-        key: u64,
-        wanted: WantedResource,
-    },
+    Create { key: u64, wanted: WantedResource },
     /// Gives the resource back, and its piece with it; the number is free again.
-    Release {
-        key: u64,
-    },
+    Release { key: u64 },
     /// Asks for the texts of all live pieces.
     Leaks,
-    /// Asks for the report of the allocator.
-    Report,
-    /// Asks for the sum of the sizes of the live blocks.
-    Capacity,
     /// Asks how many committed resources of a memory type there are, and for their sizes' sum.
-    Committed {
-        memory_type: u64,
-    },
-    /// Bounds the sum of the sizes of the blocks of a memory type, in bytes, or takes the bound away.
-    SetBudget {
-        memory_type: u64,
-        budget: Option<u64>,
-    },
+    Committed { memory_type: u64 },
 }
+
+/// A command to a session of DirectX 12.
+pub type Command = crate::Command<Request, Other>;

@@ -11,7 +11,7 @@ ghost use Rattle.gpu_d3d12.specs.State.{basis_of, beside_of};
 ghost use Rattle.gpu_pool.specs.Handles.{all_handles};
 ghost use Rattle.gpu_block_session.specs.CommandList.{IsRun};
 ghost use Rattle.gpu_run.specs.D3D12Command as commands;
-ghost use Rattle.gpu_run.specs.D3D12Command.{Alloc, Move, Free, Rename, Create, Release, Under, UnderResource, command_of};
+ghost use Rattle.gpu_run.specs.D3D12Command.{Alloc, Move, Free, Rename, Create, Release, Under, UnderResource, command_of, other_of};
 ghost use Rattle.gpu_run.specs.D3D12Describe.{Wanted, AsksFor, AsksForResource};
 ghost use Rattle.gpu_run.specs.D3D12Reply as replies;
 ghost use Rattle.gpu_run.specs.D3D12Reply.{reply_of, shown, shown_of, shown_resource};
@@ -19,7 +19,7 @@ ghost use Rattle.gpu_run.specs.D3D12Session.{SessionInvariant};
 ghost use Rattle.gpu_run.specs.D3D12Served.{session_of, IsConstant, IsAnswered, ServesCommand};
 ghost use Rattle.gpu_run.specs.declared.d3d12.command.WantedResource.{WantedResource};
 
-use crate::d3d12::command::{Command, WantedResource};
+use crate::d3d12::command::{Command, Other, WantedResource};
 use crate::d3d12::describe::{describe, describe_piece, resource_type};
 use crate::d3d12::reply::{Allocated, Made, Reply};
 use crate::{Serve, bind};
@@ -177,20 +177,29 @@ impl<D: D3D12Device> Session<D> {
                 self.propose_move(*key, *to, &describe_piece(request))
             }
             Command::Free { key } => self.free(log, *key),
-            Command::Rename { key, name } => self.rename(*key, name.as_str()),
-            Command::Create { key, wanted } => {
-                let memory = resource_type(&wanted.memory);
-                self.create(log, *key, &describe(wanted, &memory))
-            }
-            Command::Release { key } => self.release(log, *key),
-            Command::Leaks => self.leaks(),
             Command::Report => self.report(),
             Command::Capacity => self.capacity(),
-            Command::Committed { memory_type } => self.committed(*memory_type),
             Command::SetBudget {
                 memory_type,
                 budget,
             } => self.set_budget(*memory_type, *budget),
+            Command::Other(other) => self.answer_other(log, other),
+        }
+    }
+
+    fn answer_other<L: Log>(&mut self, log: &L, other: &Other) -> Reply
+        ensures { IsAnswered D.D3D12Device (other_of other.now) (reply_of result)
+            self.old self.new }
+    {
+        match other {
+            Other::Rename { key, name } => self.rename(*key, name.as_str()),
+            Other::Create { key, wanted } => {
+                let memory = resource_type(&wanted.memory);
+                self.create(log, *key, &describe(wanted, &memory))
+            }
+            Other::Release { key } => self.release(log, *key),
+            Other::Leaks => self.leaks(),
+            Other::Committed { memory_type } => self.committed(*memory_type),
         }
     }
 

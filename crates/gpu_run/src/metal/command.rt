@@ -12,20 +12,9 @@ pub struct Request {
     pub name: String,
 }
 
-/// A command to a session. `key` is the caller's own number of an allocation; sizes and alignments are bytes.
+/// What only sessions of Metal are asked for. `key` is the caller's own number of an allocation; sizes are bytes.
 #[derive(Debug, Drop)]
-pub enum Command {
-    /// Asks for a piece, and binds the number to it.
-    Alloc {
-        key: u64,
-        request: Request,
-    },
-    /// Asks for a second place of the allocation, by its request again, and binds the number `to` to it.
-    Move {
-        key: u64,
-        to: u64,
-        request: Request,
-    },
+pub enum Other {
     /// Asks for a buffer's piece: the device tells its size and alignment.
     Buffer {
         key: u64,
@@ -46,21 +35,11 @@ pub enum Command {
         texture: TextureDescriptor,
         name: String,
     },
-    /// Frees the allocation; the number is free again.
-    Free {
-        key: u64,
-    },
     /// Asks for the heaps of the live blocks.
     Heaps,
     /// Commits the residency set, where there is one.
     Commit,
-    /// Asks for the report of the allocator.
-    Report,
-    /// Asks for the sum of the sizes of the live blocks.
-    Capacity,
-    /// Bounds the sum of the sizes of the blocks of a memory type, in bytes, or takes the bound away.
-    SetBudget {
-        memory_type: u64,
-        budget: Option<u64>,
-    },
 }
+
+/// A command to a session of Metal.
+pub type Command = crate::Command<Request, Other>;

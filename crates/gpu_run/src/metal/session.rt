@@ -8,14 +8,14 @@ ghost use Rattle.gpu_pool.specs.Handles.{all_handles};
 ghost use Rattle.gpu_block_session.specs.CommandList.{IsRun};
 ghost use Rattle.gpu_run.specs.MetalCommand as commands;
 ghost use Rattle.gpu_run.specs.MetalDescribe.{Described, AsksFor};
-ghost use Rattle.gpu_run.specs.MetalCommand.{Alloc, Move, Free, Under, command_of};
+ghost use Rattle.gpu_run.specs.MetalCommand.{Alloc, Move, Free, Under, command_of, other_of};
 ghost use Rattle.gpu_run.specs.MetalReply as replies;
 ghost use Rattle.gpu_run.specs.MetalReply.{reply_of, shown};
 ghost use Rattle.gpu_run.specs.MetalSession.{SessionInvariant};
 ghost use Rattle.gpu_run.specs.MetalServed.{session_of, IsConstant, IsAnswered, ServesCommand};
 ghost use Rattle.gpu_pool.specs.Allocation.{piece_of};
 
-use crate::metal::command::Command;
+use crate::metal::command::{Command, Other};
 use crate::metal::describe::{Wanted, describe, describe_piece, wanted_piece};
 use crate::metal::reply::{Allocated, Reply};
 use crate::{Serve, bind};
@@ -148,13 +148,29 @@ impl<D: MetalDevice> Session<D> {
             Command::Move { key, to, request } => {
                 self.propose_move(*key, *to, &describe_piece(request))
             }
-            Command::Buffer {
+            Command::Free { key } => self.free(log, *key),
+            Command::Report => self.report(),
+            Command::Capacity => self.capacity(),
+            Command::SetBudget {
+                memory_type,
+                budget,
+            } => self.set_budget(*memory_type, *budget),
+            Command::Other(other) => self.answer_other(log, other),
+        }
+    }
+
+    fn answer_other<L: Log>(&mut self, log: &L, other: &Other) -> Reply
+        ensures { IsAnswered D.MetalDevice (other_of other.now) (reply_of result)
+            self.old self.new }
+    {
+        match other {
+            Other::Buffer {
                 key,
                 length,
                 location,
                 name,
             } => self.allocate(log, *key, Wanted::Buffer(*length, *location), name.as_str()),
-            Command::AccelerationStructure {
+            Other::AccelerationStructure {
                 key,
                 size,
                 location,
@@ -163,18 +179,11 @@ impl<D: MetalDevice> Session<D> {
                 let wanted = Wanted::AccelerationStructure(*size, *location);
                 self.allocate(log, *key, wanted, name.as_str())
             }
-            Command::Texture { key, texture, name } => {
+            Other::Texture { key, texture, name } => {
                 self.allocate(log, *key, Wanted::Texture(*texture), name.as_str())
             }
-            Command::Free { key } => self.free(log, *key),
-            Command::Heaps => self.heaps(),
-            Command::Commit => self.commit(),
-            Command::Report => self.report(),
-            Command::Capacity => self.capacity(),
-            Command::SetBudget {
-                memory_type,
-                budget,
-            } => self.set_budget(*memory_type, *budget),
+            Other::Heaps => self.heaps(),
+            Other::Commit => self.commit(),
         }
     }
 

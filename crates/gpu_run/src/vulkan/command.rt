@@ -30,54 +30,20 @@ pub(crate) fn describe(request: &Request) -> AllocationCreateDesc<'_>
     }
 }
 
-/// A command to a session. `key` is the caller's own number of an allocation; sizes and places are bytes.
+/// What only sessions of Vulkan are asked for. `key` is the caller's own number of an allocation; sizes and places are bytes.
 #[derive(Debug, Drop)]
-pub enum Command {
-    /// Asks for an allocation, and binds the number to it.
-    Alloc {
-        key: u64,
-        request: Request,
-    },
-    /// Asks for a second place of the allocation, by its request again, and binds the number `to` to it.
-    Move {
-        key: u64,
-        to: u64,
-        request: Request,
-    },
+pub enum Other {
     /// Binds the number to a null allocation.
-    Null {
-        key: u64,
-    },
-    /// Frees the allocation; the number is free again.
-    Free {
-        key: u64,
-    },
+    Null { key: u64 },
     /// Renames the allocation.
-    Rename {
-        key: u64,
-        name: String,
-    },
+    Rename { key: u64, name: String },
     /// Writes bytes into the allocation from `at` on.
-    Write {
-        key: u64,
-        at: u64,
-        bytes: Vec<u8>,
-    },
+    Write { key: u64, at: u64, bytes: Vec<u8> },
     /// Reads `size` bytes of the allocation from `at` on.
-    Read {
-        key: u64,
-        at: u64,
-        size: u64,
-    },
-    /// Asks for the report of the allocator.
-    Report,
+    Read { key: u64, at: u64, size: u64 },
     /// Asks for the texts of all live pieces.
     Leaks,
-    /// Asks for the sum of the sizes of the live blocks.
-    Capacity,
-    /// Bounds the sum of the sizes of the blocks of a memory type, in bytes, or takes the bound away.
-    SetBudget {
-        memory_type: u64,
-        budget: Option<u64>,
-    },
 }
+
+/// A command to a session of Vulkan.
+pub type Command = crate::Command<Request, Other>;

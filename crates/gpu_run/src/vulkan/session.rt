@@ -9,10 +9,10 @@ ghost use Rattle.gpu_run.specs.VulkanCommand as commands;
 ghost use Rattle.gpu_run.specs.VulkanReply as replies;
 ghost use Rattle.gpu_run.specs.VulkanCommand.{Wanted, Describes, Alloc, Move, Null, Free, Rename, Write, Read, Under};
 ghost use Rattle.gpu_run.specs.VulkanSession.{IsOwn, SessionInvariant, overwritten};
-ghost use Rattle.gpu_run.specs.VulkanServed.{session_of, command_of, reply_of, shown_allocation, IsCommandServed, IsRun, ServesEach};
+ghost use Rattle.gpu_run.specs.VulkanServed.{session_of, command_of, other_of, reply_of, shown_allocation, IsCommandServed, IsRun, ServesEach};
 
 use crate::vulkan::command::describe;
-use crate::vulkan::{Allocated, Command, Reply};
+use crate::vulkan::{Allocated, Command, Other, Reply};
 use crate::{Serve, bind};
 use gpu_device::vulkan::VulkanDevice;
 use gpu_values::{AllocationError, Result};
@@ -146,18 +146,27 @@ impl<D: VulkanDevice> Session<D> {
         match command {
             Command::Alloc { key, request } => self.allocate(log, *key, &describe(request)),
             Command::Move { key, to, request } => self.propose_move(*key, *to, &describe(request)),
-            Command::Null { key } => self.bind_null(*key),
             Command::Free { key } => self.free(log, *key),
-            Command::Rename { key, name } => self.rename(*key, name.as_str()),
-            Command::Write { key, at, bytes } => self.write(*key, *at, bytes),
-            Command::Read { key, at, size } => self.read(*key, *at, *size),
             Command::Report => self.report(),
-            Command::Leaks => self.leaks(),
             Command::Capacity => Reply::Capacity(self.allocator.capacity()),
             Command::SetBudget {
                 memory_type,
                 budget,
             } => self.set_budget(*memory_type, *budget),
+            Command::Other(other) => self.serve_other(other),
+        }
+    }
+
+    fn serve_other(&mut self, other: &Other) -> Reply
+        ensures { IsCommandServed D.VulkanDevice (other_of other.now) (reply_of result)
+            self.old self.new }
+    {
+        match other {
+            Other::Null { key } => self.bind_null(*key),
+            Other::Rename { key, name } => self.rename(*key, name.as_str()),
+            Other::Write { key, at, bytes } => self.write(*key, *at, bytes),
+            Other::Read { key, at, size } => self.read(*key, *at, *size),
+            Other::Leaks => self.leaks(),
         }
     }
 

@@ -15,11 +15,12 @@ ghost use Rattle.gpu_capture.specs.Devices.{d3d12_lines};
 ghost use Rattle.gpu_capture.specs.History.{Call, Kept};
 ghost use Rattle.gpu_capture.specs.Keeps.{Keeps, blank, with_lines};
 ghost use Rattle.gpu_capture.specs.Requests.{committed_line};
-ghost use Rattle.gpu_run.specs.declared.d3d12.command.Command.TheVariants.{Free, Release, SetBudget};
+ghost use Rattle.gpu_run.specs.declared.command.Command.TheVariants.{Free, SetBudget, Other};
+ghost use Rattle.gpu_run.specs.declared.d3d12.command.Other.TheVariants.{Release};
 ghost use Rattle.gpu_trace_text.specs.Dialect.{new_words, destroy_words};
-ghost use Rattle.gpu_trace_text.specs.Ask.{FitsBudget};
-ghost use Rattle.gpu_trace_text.specs.Captured.{BeginsWith};
-ghost use Rattle.gpu_trace_text.specs.D3D12Captured.{FitsCaptured, IsAlloc, IsMove, IsRename};
+ghost use Rattle.gpu_trace_text.specs.Command.{FitsBudget};
+ghost use Rattle.gpu_trace_text.specs.Captured.{BeginsWith, IsAlloc, IsMove};
+ghost use Rattle.gpu_trace_text.specs.D3D12Captured.{FitsCaptured, IsRequest, IsRename};
 ghost use Rattle.gpu_trace_text.specs.D3D12Line.{Means};
 ghost use Rattle.gpu_trace_text.specs.D3D12Setting.{words as setting_words, SettingFits as FitsSetting};
 ghost use Rattle.gpu_trace_text.specs.declared.d3d12.setting.Setting.{Setting};
@@ -34,7 +35,7 @@ use std::alloc::Global;
 #[tactic(auto, using(crate::proofs::D3D12Captured::alloc_reads))]
 pub fn allocation_reads_back(alloc: Global)
     ensures { (number : ℕ) (r : D3D12Request) (rest : List ℕ) → number < 2 ^ 64 → FitsCaptured r
-        → BeginsWith Means (IsAlloc number r) (alloc_line number (requests.D3D12 r) ++ rest) rest }
+        → BeginsWith Means (IsAlloc number (IsRequest r)) (alloc_line number (requests.D3D12 r) ++ rest) rest }
 {}
 
 /// A second place that was asked for.
@@ -42,7 +43,7 @@ pub fn allocation_reads_back(alloc: Global)
 pub fn move_reads_back(alloc: Global)
     ensures { (from to : ℕ) (r : D3D12Request) (rest : List ℕ) → from < 2 ^ 64 → to < 2 ^ 64
         → FitsCaptured r
-        → BeginsWith Means (IsMove from to r) (move_line from to (requests.D3D12 r) ++ rest) rest }
+        → BeginsWith Means (IsMove from to (IsRequest r)) (move_line from to (requests.D3D12 r) ++ rest) rest }
 {}
 
 /// A committed resource: a buffer of as many whole units of 65,536 bytes.
@@ -63,7 +64,7 @@ pub fn free_reads_back()
 #[tactic(auto, using(crate::proofs::D3D12Captured::release_reads))]
 pub fn release_reads_back()
     ensures { (number : ℕ) (rest : List ℕ) → number < 2 ^ 64
-        → BeginsWith Means (λ l. l ≡ lines.Asks (Release number))
+        → BeginsWith Means (λ l. l ≡ lines.Asks (Other (Release number)))
         (line_of (release_words number) ++ rest) rest }
 {}
 

@@ -8,6 +8,7 @@ ghost use Rattle.gpu_trace_text.specs.declared.d3d12.setting.Version.{Version};
 
 use crate::device::setting;
 use crate::device::setting::shared_setting_of;
+use crate::spelled::Spelled;
 use gpu_block_session::words::code;
 use gpu_device::d3d12::ResourceHeapTier;
 use std::alloc::{AllocError, Global};
@@ -89,20 +90,24 @@ fn newest(arguments: &[&str]) -> Option<Setting>
     Some(Setting::Interface(version))
 }
 
-/// The setting that a line's words say, or `None` where they say none. Only host memory can be refused.
-pub(crate) fn said_setting(
-    alloc: Global,
-    verb: &str,
-    arguments: &[&str],
-) -> Result<Option<Setting>, AllocError>
-    ensures { IfOk result (λ found. Says words SettingFits (verb.now ∷ texts arguments.now) found) }
-{
-    match verb {
-        "tier" => tier(alloc, arguments),
-        "version" => Ok(newest(arguments)),
-        _ => match shared_setting_of(alloc, verb, arguments)? {
-            Some(setting) => Ok(Some(Setting::Shared(setting))),
-            None => Ok(None),
-        },
+impl Spelled for Setting {
+    ghost use Rattle.gpu_trace_text.specs.D3D12Setting.{words, SettingFits};
+
+    ghost spelling = { words };
+
+    ghost Fits = { SettingFits };
+
+    fn said(alloc: Global, words: &[&str]) -> Result<Option<Setting>, AllocError> {
+        let [verb, arguments @ ..] = words else {
+            return Ok(None);
+        };
+        match *verb {
+            "tier" => tier(alloc, arguments),
+            "version" => Ok(newest(arguments)),
+            _ => match shared_setting_of(alloc, verb, arguments)? {
+                Some(setting) => Ok(Some(Setting::Shared(setting))),
+                None => Ok(None),
+            },
+        }
     }
 }

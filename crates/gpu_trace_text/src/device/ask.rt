@@ -1,20 +1,21 @@
-//! What a command of a device trace says.
+//! What a command of a device trace says that is no other API's.
 
-ghost use Rattle.std.specs.Prelude.{◌≡◌, ◌≢◌, ℕ, ◌<◌, ◌^◌, ◌∷◌, List, Bool, Option, IfOk, MatchOption, IsTrue, ◌↔◌, codes};
+ghost use Rattle.std.specs.Prelude.{◌≡◌, ◌≢◌, ℕ, ◌<◌, ◌^◌, ◌∷◌, List, Bool, IfOk, MatchOption, IsTrue, ◌↔◌, codes};
 ghost use Rattle.std.specs.Fmt.{decimal};
 ghost use Rattle.gpu_values.specs.declared.memory_location.MemoryLocation.{MemoryLocation};
 ghost use Rattle.gpu_device.specs.declared.vulkan.types.AllocationScheme.{AllocationScheme};
 ghost use Rattle.gpu_trace_text.specs.Hex.{hex, AreBytes};
 ghost use Rattle.gpu_block_session.specs.Words.{texts};
-ghost use Rattle.gpu_capture.specs.Words.{location_word, budget_word};
+ghost use Rattle.gpu_capture.specs.Words.{location_word};
 ghost use Rattle.gpu_capture.specs.Vulkan.{linear_word, scheme_word};
-ghost use Rattle.gpu_trace_text.specs.Ask.{request_words, words, CommandFits, FitsBudget, FitsRequest, FitsScheme, IsLength, IsPayload};
+ghost use Rattle.gpu_trace_text.specs.Ask.{request_words, words, FitsRequest, FitsScheme, IsLength, IsPayload, OtherFits};
 ghost use Rattle.gpu_trace_text.specs.Spelled.{Says};
 
 use crate::hex;
+use crate::spelled::Spelled;
 use gpu_block_session::words::{name_of, number, small_number};
 use gpu_device::vulkan::{AllocationScheme, Buffer, Image, MemoryRequirements};
-use gpu_run::vulkan::{Command, Request};
+use gpu_run::vulkan::{Other, Request};
 use gpu_values::MemoryLocation;
 use std::alloc::{AllocError, Global};
 
@@ -110,74 +111,36 @@ fn placed(
     }))
 }
 
-/// The request that these words say, or `None` where they say none. Only host memory can be refused.
-fn request_of(alloc: Global, arguments: &[&str]) -> Result<Option<Request>, AllocError>
-    ensures { IfOk result (Says request_words FitsRequest (texts arguments.now)) }
-{
-    let [size, alignment, bits, rest @ ..] = arguments else {
-        return Ok(None);
-    };
-    let Some(requirements) = requirements_of(size, alignment, bits) else {
-        return Ok(None);
-    };
-    placed(alloc, requirements, rest)
+impl Spelled for Request {
+    ghost use Rattle.gpu_trace_text.specs.Ask.{request_words, FitsRequest};
+
+    ghost spelling = { request_words };
+
+    ghost Fits = { FitsRequest };
+
+    fn said(alloc: Global, words: &[&str]) -> Result<Option<Request>, AllocError> {
+        let [size, alignment, bits, rest @ ..] = words else {
+            return Ok(None);
+        };
+        let Some(requirements) = requirements_of(size, alignment, bits) else {
+            return Ok(None);
+        };
+        placed(alloc, requirements, rest)
+    }
 }
 
-fn alloc(alloc: Global, arguments: &[&str]) -> Result<Option<Command>, AllocError>
-    ensures { IfOk result (λ found. Says words CommandFits (codes "alloc" ∷ texts arguments.now) found) }
-{
-    let [key, rest @ ..] = arguments else {
-        return Ok(None);
-    };
-    let Some(key) = number(key) else {
-        return Ok(None);
-    };
-    let Some(request) = request_of(alloc, rest)? else {
-        return Ok(None);
-    };
-    Ok(Some(Command::Alloc { key, request }))
-}
-
-fn second_place(alloc: Global, arguments: &[&str]) -> Result<Option<Command>, AllocError>
-    ensures { IfOk result (λ found. Says words CommandFits (codes "move" ∷ texts arguments.now) found) }
-{
-    let [key, to, rest @ ..] = arguments else {
-        return Ok(None);
-    };
-    let Some(key) = number(key) else {
-        return Ok(None);
-    };
-    let Some(to) = number(to) else {
-        return Ok(None);
-    };
-    let Some(request) = request_of(alloc, rest)? else {
-        return Ok(None);
-    };
-    Ok(Some(Command::Move { key, to, request }))
-}
-
-fn null(arguments: &[&str]) -> Option<Command>
-    ensures { Says words CommandFits (codes "null" ∷ texts arguments.now) result }
+fn null(arguments: &[&str]) -> Option<Other>
+    ensures { Says words OtherFits (codes "null" ∷ texts arguments.now) result }
 {
     let [key] = arguments else {
         return None;
     };
     let key = number(key)?;
-    Some(Command::Null { key })
+    Some(Other::Null { key })
 }
 
-fn free(arguments: &[&str]) -> Option<Command>
-    ensures { Says words CommandFits (codes "free" ∷ texts arguments.now) result }
-{
-    let [key] = arguments else {
-        return None;
-    };
-    let key = number(key)?;
-    Some(Command::Free { key })
-}
-
-fn rename(alloc: Global, arguments: &[&str]) -> Result<Option<Command>, AllocError>
-    ensures { IfOk result (λ found. Says words CommandFits (codes "rename" ∷ texts arguments.now) found) }
+fn rename(alloc: Global, arguments: &[&str]) -> Result<Option<Other>, AllocError>
+    ensures { IfOk result (λ found. Says words OtherFits (codes "rename" ∷ texts arguments.now) found) }
 {
     let [key, name] = arguments else {
         return Ok(None);
@@ -188,7 +151,7 @@ fn rename(alloc: Global, arguments: &[&str]) -> Result<Option<Command>, AllocErr
     let Some(name) = name_of(alloc, name)? else {
         return Ok(None);
     };
-    Ok(Some(Command::Rename { key, name }))
+    Ok(Some(Other::Rename { key, name }))
 }
 
 /// Whether so many bytes may be written or read by one line.
@@ -221,8 +184,8 @@ fn payload(alloc: Global, word: &str) -> Result<Option<Vec<u8>>, AllocError>
     }
 }
 
-fn write(alloc: Global, arguments: &[&str]) -> Result<Option<Command>, AllocError>
-    ensures { IfOk result (λ found. Says words CommandFits (codes "write" ∷ texts arguments.now) found) }
+fn write(alloc: Global, arguments: &[&str]) -> Result<Option<Other>, AllocError>
+    ensures { IfOk result (λ found. Says words OtherFits (codes "write" ∷ texts arguments.now) found) }
 {
     let [key, at, digits] = arguments else {
         return Ok(None);
@@ -236,7 +199,7 @@ fn write(alloc: Global, arguments: &[&str]) -> Result<Option<Command>, AllocErro
     let Some(bytes) = payload(alloc, digits)? else {
         return Ok(None);
     };
-    Ok(Some(Command::Write { key, at, bytes }))
+    Ok(Some(Other::Write { key, at, bytes }))
 }
 
 fn size_of(word: &str) -> Option<u64>
@@ -247,8 +210,8 @@ fn size_of(word: &str) -> Option<u64>
     if is_length(size) { Some(size) } else { None }
 }
 
-fn read(arguments: &[&str]) -> Option<Command>
-    ensures { Says words CommandFits (codes "read" ∷ texts arguments.now) result }
+fn read(arguments: &[&str]) -> Option<Other>
+    ensures { Says words OtherFits (codes "read" ∷ texts arguments.now) result }
 {
     let [key, at, size] = arguments else {
         return None;
@@ -256,72 +219,36 @@ fn read(arguments: &[&str]) -> Option<Command>
     let key = number(key)?;
     let at = number(at)?;
     let size = size_of(size)?;
-    Some(Command::Read { key, at, size })
+    Some(Other::Read { key, at, size })
 }
 
-fn leaks(arguments: &[&str]) -> Option<Command>
-    ensures { Says words CommandFits (codes "leaks" ∷ texts arguments.now) result }
+fn leaks(arguments: &[&str]) -> Option<Other>
+    ensures { Says words OtherFits (codes "leaks" ∷ texts arguments.now) result }
 {
     let [] = arguments else {
         return None;
     };
-    Some(Command::Leaks)
+    Some(Other::Leaks)
 }
 
-fn capacity(arguments: &[&str]) -> Option<Command>
-    ensures { Says words CommandFits (codes "capacity" ∷ texts arguments.now) result }
-{
-    let [] = arguments else {
-        return None;
-    };
-    Some(Command::Capacity)
-}
+impl Spelled for Other {
+    ghost use Rattle.gpu_trace_text.specs.Ask.{words, OtherFits};
 
-/// A budget: a number of bytes, or `none`.
-pub fn budget_of(word: &str) -> Option<Option<u64>>
-    ensures { MatchOption result ((b : Option ℕ) → FitsBudget b → word.now ≢ budget_word b)
-        (λ b. FitsBudget b × (word.now ≡ budget_word b)) }
-{
-    if word == "none" {
-        return Some(None);
-    }
-    let bytes = number(word)?;
-    Some(Some(bytes))
-}
+    ghost spelling = { words };
 
-fn budget(arguments: &[&str]) -> Option<Command>
-    ensures { Says words CommandFits (codes "budget" ∷ texts arguments.now) result }
-{
-    let [memory_type, budget] = arguments else {
-        return None;
-    };
-    let memory_type = number(memory_type)?;
-    let budget = budget_of(budget)?;
-    Some(Command::SetBudget {
-        memory_type,
-        budget,
-    })
-}
+    ghost Fits = { OtherFits };
 
-/// The command that a line's words say, or `None` where they say none. Only host memory can be refused.
-pub fn command_of(
-    global: Global,
-    verb: &str,
-    arguments: &[&str],
-) -> Result<Option<Command>, AllocError>
-    ensures { IfOk result (λ found. Says words CommandFits (verb.now ∷ texts arguments.now) found) }
-{
-    match verb {
-        "alloc" => alloc(global, arguments),
-        "move" => second_place(global, arguments),
-        "null" => Ok(null(arguments)),
-        "free" => Ok(free(arguments)),
-        "rename" => rename(global, arguments),
-        "write" => write(global, arguments),
-        "read" => Ok(read(arguments)),
-        "leaks" => Ok(leaks(arguments)),
-        "capacity" => Ok(capacity(arguments)),
-        "budget" => Ok(budget(arguments)),
-        _ => Ok(None),
+    fn said(alloc: Global, words: &[&str]) -> Result<Option<Other>, AllocError> {
+        let [verb, arguments @ ..] = words else {
+            return Ok(None);
+        };
+        match *verb {
+            "null" => Ok(null(arguments)),
+            "rename" => rename(alloc, arguments),
+            "write" => write(alloc, arguments),
+            "read" => Ok(read(arguments)),
+            "leaks" => Ok(leaks(arguments)),
+            _ => Ok(None),
+        }
     }
 }

@@ -8,6 +8,7 @@ ghost use Rattle.gpu_capture.specs.Words.{refusal_word};
 ghost use Rattle.gpu_trace_text.specs.Setting.{words, SettingFits, FitsRefusal, FitsShared, sizes_of};
 ghost use Rattle.gpu_trace_text.specs.Spelled.{Says};
 
+use crate::spelled::Spelled;
 use gpu_block_session::words::{code, number, small_number};
 use gpu_sim_base::Refusal;
 use gpu_values::AllocationSizes;
@@ -148,22 +149,6 @@ pub fn shared_setting_of(
     }
 }
 
-/// The setting that a line's words say, or `None` where they say none. Only host memory can be refused.
-pub fn setting_of(
-    alloc: Global,
-    verb: &str,
-    arguments: &[&str],
-) -> Result<Option<Setting>, AllocError>
-    ensures { IfOk result (λ found. Says words SettingFits (verb.now ∷ texts arguments.now) found) }
-{
-    match verb {
-        "heap" => Ok(heap(arguments)),
-        "type" => Ok(memory_type(arguments)),
-        "granularity" => Ok(granularity(arguments)),
-        _ => shared_setting_of(alloc, verb, arguments),
-    }
-}
-
 /// The sizes of blocks that the numbers of a `sizes` line stand for.
 pub fn sizes_of(device: u64, host: u64, max_device: u64, max_host: u64) -> AllocationSizes
     ensures { result ≡ sizes_of device host max_device max_host }
@@ -171,4 +156,24 @@ pub fn sizes_of(device: u64, host: u64, max_device: u64, max_host: u64) -> Alloc
     AllocationSizes::new(device, host)
         .with_max_device_memblock_size(max_device)
         .with_max_host_memblock_size(max_host)
+}
+
+impl Spelled for Setting {
+    ghost use Rattle.gpu_trace_text.specs.Setting.{words, SettingFits};
+
+    ghost spelling = { words };
+
+    ghost Fits = { SettingFits };
+
+    fn said(alloc: Global, words: &[&str]) -> Result<Option<Setting>, AllocError> {
+        let [verb, arguments @ ..] = words else {
+            return Ok(None);
+        };
+        match *verb {
+            "heap" => Ok(heap(arguments)),
+            "type" => Ok(memory_type(arguments)),
+            "granularity" => Ok(granularity(arguments)),
+            _ => shared_setting_of(alloc, verb, arguments),
+        }
+    }
 }

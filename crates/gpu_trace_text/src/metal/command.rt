@@ -1,4 +1,4 @@
-//! What a command of a Metal trace says.
+//! What a command of a Metal trace says that is no other API's.
 
 ghost use Rattle.std.specs.Prelude.{◌≡◌, ◌≢◌, ℕ, ◌<◌, ◌^◌, ◌∷◌, List, IfOk, MatchOption, codes};
 ghost use Rattle.std.specs.Fmt.{decimal};
@@ -6,13 +6,14 @@ ghost use Rattle.gpu_values.specs.declared.memory_location.MemoryLocation.{Memor
 ghost use Rattle.gpu_device.specs.declared.metal.types.StorageMode.{StorageMode};
 ghost use Rattle.gpu_capture.specs.Words.{location_word};
 ghost use Rattle.gpu_block_session.specs.Words.{texts};
-ghost use Rattle.gpu_trace_text.specs.MetalCommand.{mode_word, request_words, words, CommandFits, FitsMode, FitsRequest};
+ghost use Rattle.gpu_trace_text.specs.MetalCommand.{mode_word, words, FitsMode, OtherFits};
 ghost use Rattle.gpu_trace_text.specs.Spelled.{Says};
 
-use crate::device::ask::{budget_of, location_of};
+use crate::device::ask::location_of;
+use crate::spelled::Spelled;
 use gpu_block_session::words::{name_of, number, small_number};
 use gpu_device::metal::{StorageMode, TextureDescriptor};
-use gpu_run::metal::{Command, Request};
+use gpu_run::metal::{Other, Request};
 use gpu_values::MemoryLocation;
 use std::alloc::{AllocError, Global};
 
@@ -32,68 +33,40 @@ fn mode_of(word: &str) -> Option<StorageMode>
     }
 }
 
-/// The request that these words say, or `None` where they say none. Only host memory can be refused.
-fn request_of(alloc: Global, arguments: &[&str]) -> Result<Option<Request>, AllocError>
-    ensures { IfOk result (Says request_words FitsRequest (texts arguments.now)) }
-{
-    let [size, alignment, location, name] = arguments else {
-        return Ok(None);
-    };
-    let Some(size) = number(size) else {
-        return Ok(None);
-    };
-    let Some(alignment) = number(alignment) else {
-        return Ok(None);
-    };
-    let Some(location) = location_of(location) else {
-        return Ok(None);
-    };
-    let Some(name) = name_of(alloc, name)? else {
-        return Ok(None);
-    };
-    Ok(Some(Request {
-        size,
-        alignment,
-        location,
-        name,
-    }))
+impl Spelled for Request {
+    ghost use Rattle.gpu_trace_text.specs.MetalCommand.{request_words, FitsRequest};
+
+    ghost spelling = { request_words };
+
+    ghost Fits = { FitsRequest };
+
+    fn said(alloc: Global, words: &[&str]) -> Result<Option<Request>, AllocError> {
+        let [size, alignment, location, name] = words else {
+            return Ok(None);
+        };
+        let Some(size) = number(size) else {
+            return Ok(None);
+        };
+        let Some(alignment) = number(alignment) else {
+            return Ok(None);
+        };
+        let Some(location) = location_of(location) else {
+            return Ok(None);
+        };
+        let Some(name) = name_of(alloc, name)? else {
+            return Ok(None);
+        };
+        Ok(Some(Request {
+            size,
+            alignment,
+            location,
+            name,
+        }))
+    }
 }
 
-fn alloc(alloc: Global, arguments: &[&str]) -> Result<Option<Command>, AllocError>
-    ensures { IfOk result (λ found. Says words CommandFits (codes "alloc" ∷ texts arguments.now) found) }
-{
-    let [key, rest @ ..] = arguments else {
-        return Ok(None);
-    };
-    let Some(key) = number(key) else {
-        return Ok(None);
-    };
-    let Some(request) = request_of(alloc, rest)? else {
-        return Ok(None);
-    };
-    Ok(Some(Command::Alloc { key, request }))
-}
-
-fn second_place(alloc: Global, arguments: &[&str]) -> Result<Option<Command>, AllocError>
-    ensures { IfOk result (λ found. Says words CommandFits (codes "move" ∷ texts arguments.now) found) }
-{
-    let [key, to, rest @ ..] = arguments else {
-        return Ok(None);
-    };
-    let Some(key) = number(key) else {
-        return Ok(None);
-    };
-    let Some(to) = number(to) else {
-        return Ok(None);
-    };
-    let Some(request) = request_of(alloc, rest)? else {
-        return Ok(None);
-    };
-    Ok(Some(Command::Move { key, to, request }))
-}
-
-fn buffer(alloc: Global, arguments: &[&str]) -> Result<Option<Command>, AllocError>
-    ensures { IfOk result (λ found. Says words CommandFits (codes "buffer" ∷ texts arguments.now) found) }
+fn buffer(alloc: Global, arguments: &[&str]) -> Result<Option<Other>, AllocError>
+    ensures { IfOk result (λ found. Says words OtherFits (codes "buffer" ∷ texts arguments.now) found) }
 {
     let [key, length, location, name] = arguments else {
         return Ok(None);
@@ -110,7 +83,7 @@ fn buffer(alloc: Global, arguments: &[&str]) -> Result<Option<Command>, AllocErr
     let Some(name) = name_of(alloc, name)? else {
         return Ok(None);
     };
-    Ok(Some(Command::Buffer {
+    Ok(Some(Other::Buffer {
         key,
         length,
         location,
@@ -118,8 +91,8 @@ fn buffer(alloc: Global, arguments: &[&str]) -> Result<Option<Command>, AllocErr
     }))
 }
 
-fn structure(alloc: Global, arguments: &[&str]) -> Result<Option<Command>, AllocError>
-    ensures { IfOk result (λ found. Says words CommandFits
+fn structure(alloc: Global, arguments: &[&str]) -> Result<Option<Other>, AllocError>
+    ensures { IfOk result (λ found. Says words OtherFits
         (codes "structure" ∷ texts arguments.now) found) }
 {
     let [key, size, location, name] = arguments else {
@@ -137,7 +110,7 @@ fn structure(alloc: Global, arguments: &[&str]) -> Result<Option<Command>, Alloc
     let Some(name) = name_of(alloc, name)? else {
         return Ok(None);
     };
-    Ok(Some(Command::AccelerationStructure {
+    Ok(Some(Other::AccelerationStructure {
         key,
         size,
         location,
@@ -166,8 +139,8 @@ fn texture_of(mode: &str, width: &str, height: &str, bytes: &str) -> Option<Text
     })
 }
 
-fn texture(alloc: Global, arguments: &[&str]) -> Result<Option<Command>, AllocError>
-    ensures { IfOk result (λ found. Says words CommandFits (codes "texture" ∷ texts arguments.now) found) }
+fn texture(alloc: Global, arguments: &[&str]) -> Result<Option<Other>, AllocError>
+    ensures { IfOk result (λ found. Says words OtherFits (codes "texture" ∷ texts arguments.now) found) }
 {
     let [key, mode, width, height, bytes, name] = arguments else {
         return Ok(None);
@@ -181,89 +154,45 @@ fn texture(alloc: Global, arguments: &[&str]) -> Result<Option<Command>, AllocEr
     let Some(name) = name_of(alloc, name)? else {
         return Ok(None);
     };
-    Ok(Some(Command::Texture { key, texture, name }))
+    Ok(Some(Other::Texture { key, texture, name }))
 }
 
-fn free(arguments: &[&str]) -> Option<Command>
-    ensures { Says words CommandFits (codes "free" ∷ texts arguments.now) result }
-{
-    let [key] = arguments else {
-        return None;
-    };
-    let key = number(key)?;
-    Some(Command::Free { key })
-}
-
-fn budget(arguments: &[&str]) -> Option<Command>
-    ensures { Says words CommandFits (codes "budget" ∷ texts arguments.now) result }
-{
-    let [memory_type, budget] = arguments else {
-        return None;
-    };
-    let memory_type = number(memory_type)?;
-    let budget = budget_of(budget)?;
-    Some(Command::SetBudget {
-        memory_type,
-        budget,
-    })
-}
-
-fn heaps(arguments: &[&str]) -> Option<Command>
-    ensures { Says words CommandFits (codes "heaps" ∷ texts arguments.now) result }
+fn heaps(arguments: &[&str]) -> Option<Other>
+    ensures { Says words OtherFits (codes "heaps" ∷ texts arguments.now) result }
 {
     let [] = arguments else {
         return None;
     };
-    Some(Command::Heaps)
+    Some(Other::Heaps)
 }
 
-fn commit(arguments: &[&str]) -> Option<Command>
-    ensures { Says words CommandFits (codes "commit" ∷ texts arguments.now) result }
+fn commit(arguments: &[&str]) -> Option<Other>
+    ensures { Says words OtherFits (codes "commit" ∷ texts arguments.now) result }
 {
     let [] = arguments else {
         return None;
     };
-    Some(Command::Commit)
+    Some(Other::Commit)
 }
 
-fn report(arguments: &[&str]) -> Option<Command>
-    ensures { Says words CommandFits (codes "report" ∷ texts arguments.now) result }
-{
-    let [] = arguments else {
-        return None;
-    };
-    Some(Command::Report)
-}
+impl Spelled for Other {
+    ghost use Rattle.gpu_trace_text.specs.MetalCommand.{words, OtherFits};
 
-fn capacity(arguments: &[&str]) -> Option<Command>
-    ensures { Says words CommandFits (codes "capacity" ∷ texts arguments.now) result }
-{
-    let [] = arguments else {
-        return None;
-    };
-    Some(Command::Capacity)
-}
+    ghost spelling = { words };
 
-/// The command that a line's words say, or `None` where they say none. Only host memory can be refused.
-pub(crate) fn said_command(
-    global: Global,
-    verb: &str,
-    arguments: &[&str],
-) -> Result<Option<Command>, AllocError>
-    ensures { IfOk result (λ found. Says words CommandFits (verb.now ∷ texts arguments.now) found) }
-{
-    match verb {
-        "alloc" => alloc(global, arguments),
-        "move" => second_place(global, arguments),
-        "buffer" => buffer(global, arguments),
-        "structure" => structure(global, arguments),
-        "texture" => texture(global, arguments),
-        "free" => Ok(free(arguments)),
-        "budget" => Ok(budget(arguments)),
-        "heaps" => Ok(heaps(arguments)),
-        "commit" => Ok(commit(arguments)),
-        "report" => Ok(report(arguments)),
-        "capacity" => Ok(capacity(arguments)),
-        _ => Ok(None),
+    ghost Fits = { OtherFits };
+
+    fn said(alloc: Global, words: &[&str]) -> Result<Option<Other>, AllocError> {
+        let [verb, arguments @ ..] = words else {
+            return Ok(None);
+        };
+        match *verb {
+            "buffer" => buffer(alloc, arguments),
+            "structure" => structure(alloc, arguments),
+            "texture" => texture(alloc, arguments),
+            "heaps" => Ok(heaps(arguments)),
+            "commit" => Ok(commit(arguments)),
+            _ => Ok(None),
+        }
     }
 }

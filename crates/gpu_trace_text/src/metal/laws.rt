@@ -12,11 +12,12 @@ ghost use Rattle.gpu_capture.specs.CaptureState.{CaptureState, text};
 ghost use Rattle.gpu_capture.specs.Devices.{metal_lines};
 ghost use Rattle.gpu_capture.specs.History.{Call, Kept};
 ghost use Rattle.gpu_capture.specs.Keeps.{Keeps, blank, with_lines};
-ghost use Rattle.gpu_run.specs.declared.metal.command.Command.TheVariants.{Commit, Free, SetBudget};
+ghost use Rattle.gpu_run.specs.declared.command.Command.TheVariants.{Free, SetBudget, Other};
+ghost use Rattle.gpu_run.specs.declared.metal.command.Other.TheVariants.{Commit};
 ghost use Rattle.gpu_trace_text.specs.Dialect.{new_words, destroy_words};
-ghost use Rattle.gpu_trace_text.specs.Ask.{FitsBudget};
-ghost use Rattle.gpu_trace_text.specs.Captured.{BeginsWith};
-ghost use Rattle.gpu_trace_text.specs.MetalCaptured.{FitsCaptured, IsAlloc, IsMove};
+ghost use Rattle.gpu_trace_text.specs.Command.{FitsBudget};
+ghost use Rattle.gpu_trace_text.specs.Captured.{BeginsWith, IsAlloc, IsMove};
+ghost use Rattle.gpu_trace_text.specs.MetalCaptured.{FitsCaptured, IsRequest};
 ghost use Rattle.gpu_trace_text.specs.MetalLine.{Means};
 ghost use Rattle.gpu_trace_text.specs.MetalSetting.{words as setting_words, SettingFits as FitsSetting};
 ghost use Rattle.gpu_trace_text.specs.declared.metal.setting.Setting.{Setting};
@@ -31,7 +32,7 @@ use std::alloc::Global;
 #[tactic(auto, using(crate::proofs::MetalCaptured::alloc_reads))]
 pub fn allocation_reads_back(alloc: Global)
     ensures { (number : ℕ) (r : MetalRequest) (rest : List ℕ) → number < 2 ^ 64 → FitsCaptured r
-        → BeginsWith Means (IsAlloc number r) (alloc_line number (requests.Metal r) ++ rest) rest }
+        → BeginsWith Means (IsAlloc number (IsRequest r)) (alloc_line number (requests.Metal r) ++ rest) rest }
 {}
 
 /// A second place that was asked for.
@@ -39,7 +40,7 @@ pub fn allocation_reads_back(alloc: Global)
 pub fn move_reads_back(alloc: Global)
     ensures { (from to : ℕ) (r : MetalRequest) (rest : List ℕ) → from < 2 ^ 64 → to < 2 ^ 64
         → FitsCaptured r
-        → BeginsWith Means (IsMove from to r) (move_line from to (requests.Metal r) ++ rest) rest }
+        → BeginsWith Means (IsMove from to (IsRequest r)) (move_line from to (requests.Metal r) ++ rest) rest }
 {}
 
 /// A free.
@@ -63,7 +64,7 @@ pub fn budget_reads_back()
 #[tactic(auto, using(crate::proofs::MetalCaptured::commit_reads))]
 pub fn commit_reads_back()
     ensures { (rest : List ℕ)
-        → BeginsWith Means (λ l. l ≡ lines.Asks Commit) (line_of (codes "commit" ∷ []) ++ rest) rest }
+        → BeginsWith Means (λ l. l ≡ lines.Asks (Other Commit)) (line_of (codes "commit" ∷ []) ++ rest) rest }
 {}
 
 /// Block sizes, a question that was refused, and whether there is a residency set: the reader's words are the capture's.

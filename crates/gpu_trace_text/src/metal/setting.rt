@@ -8,6 +8,7 @@ ghost use Rattle.gpu_trace_text.specs.Spelled.{Says};
 
 use crate::device::setting;
 use crate::device::setting::shared_setting_of;
+use crate::spelled::Spelled;
 use std::alloc::{AllocError, Global};
 
 /// A configuration line of a Metal trace.
@@ -51,20 +52,24 @@ fn residency(arguments: &[&str]) -> Option<Setting>
     Some(Setting::Residency(yes))
 }
 
-/// The setting that a line's words say, or `None` where they say none. Only host memory can be refused.
-pub(crate) fn said_setting(
-    alloc: Global,
-    verb: &str,
-    arguments: &[&str],
-) -> Result<Option<Setting>, AllocError>
-    ensures { IfOk result (λ found. Says words SettingFits (verb.now ∷ texts arguments.now) found) }
-{
-    match verb {
-        "sets" => Ok(sets(arguments)),
-        "residency" => Ok(residency(arguments)),
-        _ => match shared_setting_of(alloc, verb, arguments)? {
-            Some(setting) => Ok(Some(Setting::Shared(setting))),
-            None => Ok(None),
-        },
+impl Spelled for Setting {
+    ghost use Rattle.gpu_trace_text.specs.MetalSetting.{words, SettingFits};
+
+    ghost spelling = { words };
+
+    ghost Fits = { SettingFits };
+
+    fn said(alloc: Global, words: &[&str]) -> Result<Option<Setting>, AllocError> {
+        let [verb, arguments @ ..] = words else {
+            return Ok(None);
+        };
+        match *verb {
+            "sets" => Ok(sets(arguments)),
+            "residency" => Ok(residency(arguments)),
+            _ => match shared_setting_of(alloc, verb, arguments)? {
+                Some(setting) => Ok(Some(Setting::Shared(setting))),
+                None => Ok(None),
+            },
+        }
     }
 }

@@ -200,7 +200,7 @@ impl Trace for Stage {
         alloc: Global,
         line: &[u8],
     ) -> Result<(Self, Outcome<Reply>), AllocError> {
-        match read::<Stage>(alloc, line) {
+        match read(alloc, line) {
             Ok(line) => serve_line(log, alloc, self, line),
             Err(error) => {
                 self.end(log);

@@ -14,8 +14,3 @@ pub returns-in-Move : goal.returns-in-Move
 returns-in-Move g c =
     subst (λ m. IsAnswered g.D.D3D12Device (command_of m) (reply_of c.propose_move.result) c.args.self.now c.propose_move.new.self) (sym c.in-Move.is)
     (c.propose_move.ensures (wanted_of c.in-Move.request) c.describe_piece-in-Move.ensures)
-
-pub returns-in-Create : goal.returns-in-Create
-returns-in-Create g c =
-    subst (λ m. IsAnswered g.D.D3D12Device (command_of m) (reply_of c.create.result) c.args.self.now c.create.new.self) (sym c.in-Create.is)
-    (c.create.ensures c.in-Create.wanted (c.describe.ensures c.resource_type-memory.ensures))

@@ -1,4 +1,4 @@
-use Rattle.std.proofs.Common.{rules, refl, sym, subst}
+use Rattle.std.proofs.Common.{refl, sym, subst}
 use Rattle.gpu_vulkan.specs.Reply as answers
 use Rattle.gpu_vulkan.specs.Step as model
 use Rattle.gpu_run.specs.VulkanCommand as commands
@@ -15,6 +15,3 @@ returns-in-Capacity g c =
     subst (λ o. IsCommandServed V (command_of o) reply c.args.self.now c.args.self.now) (sym c.in-Capacity.is)
     (subst (λ x. IsCommandServed V commands.Capacity reply x x) c.self.view_is
     (told V model.Capacity (answers.Capacity c.capacity.result) commands.Capacity reply s s refl refl refl c.capacity.ensures.step (λ a. a)))
-
-pub returns-in-Read : goal.returns-in-Read
-returns-in-Read g c = search rules

@@ -1,0 +1,148 @@
+//! What a command says in a trace, whatever the API.
+
+ghost use Rattle.std.specs.Prelude.{◌≡◌, ◌≢◌, ℕ, ◌∷◌, Option, IfOk, MatchOption, codes};
+ghost use Rattle.gpu_block_session.specs.Words.{texts};
+ghost use Rattle.gpu_capture.specs.Words.{budget_word};
+ghost use Rattle.gpu_trace_text.specs.Command.{words as spelling, Shared, FitsBudget};
+ghost use Rattle.gpu_trace_text.specs.Spelled.{Says};
+
+use crate::spelled::Spelled;
+use gpu_block_session::words::number;
+use gpu_run::Command;
+use std::alloc::{AllocError, Global};
+
+fn alloc<R: Spelled, O: Spelled>(
+    alloc: Global,
+    arguments: &[&str],
+) -> Result<Option<Command<R, O>>, AllocError>
+    ensures { IfOk result (Says (spelling R.spelling O.spelling) (Shared R.Fits)
+        (codes "alloc" ∷ texts arguments.now)) }
+{
+    let [key, rest @ ..] = arguments else {
+        return Ok(None);
+    };
+    let Some(key) = number(key) else {
+        return Ok(None);
+    };
+    let Some(request) = R::said(alloc, rest)? else {
+        return Ok(None);
+    };
+    Ok(Some(Command::Alloc { key, request }))
+}
+
+fn second_place<R: Spelled, O: Spelled>(
+    alloc: Global,
+    arguments: &[&str],
+) -> Result<Option<Command<R, O>>, AllocError>
+    ensures { IfOk result (Says (spelling R.spelling O.spelling) (Shared R.Fits)
+        (codes "move" ∷ texts arguments.now)) }
+{
+    let [key, to, rest @ ..] = arguments else {
+        return Ok(None);
+    };
+    let Some(key) = number(key) else {
+        return Ok(None);
+    };
+    let Some(to) = number(to) else {
+        return Ok(None);
+    };
+    let Some(request) = R::said(alloc, rest)? else {
+        return Ok(None);
+    };
+    Ok(Some(Command::Move { key, to, request }))
+}
+
+fn free<R: Spelled, O: Spelled>(arguments: &[&str]) -> Option<Command<R, O>>
+    ensures { Says (spelling R.spelling O.spelling) (Shared R.Fits) (codes "free" ∷ texts arguments.now)
+        result }
+{
+    let [key] = arguments else {
+        return None;
+    };
+    let key = number(key)?;
+    Some(Command::Free { key })
+}
+
+fn report<R: Spelled, O: Spelled>(arguments: &[&str]) -> Option<Command<R, O>>
+    ensures { Says (spelling R.spelling O.spelling) (Shared R.Fits)
+        (codes "report" ∷ texts arguments.now) result }
+{
+    let [] = arguments else {
+        return None;
+    };
+    Some(Command::Report)
+}
+
+fn capacity<R: Spelled, O: Spelled>(arguments: &[&str]) -> Option<Command<R, O>>
+    ensures { Says (spelling R.spelling O.spelling) (Shared R.Fits)
+        (codes "capacity" ∷ texts arguments.now) result }
+{
+    let [] = arguments else {
+        return None;
+    };
+    Some(Command::Capacity)
+}
+
+/// A budget: a number of bytes, or `none`.
+fn budget_of(word: &str) -> Option<Option<u64>>
+    ensures { MatchOption result ((b : Option ℕ) → FitsBudget b → word.now ≢ budget_word b)
+        (λ b. FitsBudget b × (word.now ≡ budget_word b)) }
+{
+    if word == "none" {
+        return Some(None);
+    }
+    let bytes = number(word)?;
+    Some(Some(bytes))
+}
+
+fn budget<R: Spelled, O: Spelled>(arguments: &[&str]) -> Option<Command<R, O>>
+    ensures { Says (spelling R.spelling O.spelling) (Shared R.Fits)
+        (codes "budget" ∷ texts arguments.now) result }
+{
+    let [memory_type, budget] = arguments else {
+        return None;
+    };
+    let memory_type = number(memory_type)?;
+    let budget = budget_of(budget)?;
+    Some(Command::SetBudget {
+        memory_type,
+        budget,
+    })
+}
+
+/// The command of any API that words say.
+fn shared<R: Spelled, O: Spelled>(
+    global: Global,
+    words: &[&str],
+) -> Result<Option<Command<R, O>>, AllocError>
+    ensures { IfOk result (Says (spelling R.spelling O.spelling) (Shared R.Fits) (texts words.now)) }
+{
+    let [verb, arguments @ ..] = words else {
+        return Ok(None);
+    };
+    match *verb {
+        "alloc" => alloc(global, arguments),
+        "move" => second_place(global, arguments),
+        "free" => Ok(free(arguments)),
+        "report" => Ok(report(arguments)),
+        "capacity" => Ok(capacity(arguments)),
+        "budget" => Ok(budget(arguments)),
+        _ => Ok(None),
+    }
+}
+
+impl<R: Spelled, O: Spelled> Spelled for Command<R, O> {
+    ghost use Rattle.gpu_trace_text.specs.Command.{words, CommandFits};
+
+    ghost spelling = { words R.spelling O.spelling };
+
+    ghost Fits = { CommandFits R.Fits O.Fits };
+
+    #[tactic(auto, using(crate::proofs::Commands::other_said, crate::proofs::Commands::shared_said))]
+    fn said(alloc: Global, words: &[&str]) -> Result<Option<Command<R, O>>, AllocError> {
+        match O::said(alloc, words)? {
+            Some(other) => Ok(Some(Command::Other(other))),
+            None => shared(alloc, words),
+        }
+    }
+}
