@@ -6,11 +6,9 @@ use Rattle.std.specs.declared.alloc.Global.{Global}
 use Rattle.std.proofs.lemmas.Fmt.{decimal_injective}
 use Rattle.gpu_device.specs.declared.refusal.Refusal.{Refusal}
 use Rattle.gpu_capture.specs.declared.request.VulkanRequest.{VulkanRequest}
-use Rattle.gpu_capture.specs.declared.capture.CaptureEnd.{CaptureEnd}
-use Rattle.gpu_capture.specs.declared.capture.CaptureEnd.TheVariants.{Whole}
-use Rattle.gpu_capture.specs.CaptureState.{last_line}
+use Rattle.gpu_capture.specs.declared.request.Request.TheVariants as requests
 use Rattle.gpu_capture.specs.Line.{line_of, name_word}
-use Rattle.gpu_capture.specs.Words.{location_word, refusal_word, alloc_words, budget_words, free_words, move_words, rename_words}
+use Rattle.gpu_capture.specs.Words.{location_word, refusal_word, rename_words}
 use Rattle.gpu_capture.specs.Vulkan.{linear_word, scheme_word, vulkan_words}
 use Rattle.gpu_capture.proofs.Lines.{AreClean, clean_decimal, clean_name}
 use Rattle.gpu_run.specs.declared.vulkan.command.Request.{Request}
@@ -23,25 +21,24 @@ use Rattle.gpu_block_session.specs.BlockWords as block
 use Rattle.gpu_block_session.specs.declared.block.command.Command as blocks
 use Rattle.gpu_block_session.specs.declared.block.command.Command.TheVariants as block_commands
 use Rattle.gpu_trace_text.specs.Ask as ask
-use Rattle.gpu_trace_text.specs.Command.{words, CommandFits, FitsBudget}
+use Rattle.gpu_trace_text.specs.Command.{words, CommandFits}
 use Rattle.gpu_trace_text.specs.Spelled.{Spells}
 use Rattle.gpu_trace_text.specs.Setting as setting
 use Rattle.gpu_trace_text.specs.Line.{Means}
-use Rattle.gpu_trace_text.specs.Dialect.{new_words, destroy_words}
-use Rattle.gpu_trace_text.specs.Captured.{BeginsWith, FitsCaptured, IsRequest, IsAlloc, IsMove, IsRename}
+use Rattle.gpu_trace_text.specs.Captured.{BeginsWith, FitsCaptured, IsRequest, IsRename, ReadsBack}
 use Rattle.gpu_trace_text.specs.declared.device.setting.Setting.{Setting}
 use Rattle.gpu_trace_text.specs.declared.device.setting.Setting.TheVariants.{Heap, MemoryType, Granularity, Sizes, Refuse}
 use Rattle.gpu_trace_text.specs.declared.dialect.Line.TheVariants as lines
-use Rattle.gpu_trace_text.proofs.CapturedWords.{clean_text, clean_location, clean_linear, clean_scheme, clean_budget, clean_refusal, location-one, linear-one, scheme-one, is_name, text_of, budget-one, refusal-one, clean_small, other}
-use Rattle.gpu_trace_text.proofs.Reading.{Words, IsOwn, kinds, sets, tells, asks_line, alloc_line, move_line, free_line, budget_line, sets_line, new_line, destroy_line, ended_line}
+use Rattle.gpu_trace_text.proofs.CapturedWords.{clean_text, clean_location, clean_linear, clean_scheme, clean_refusal, location-one, linear-one, scheme-one, is_name, text_of, refusal-one, clean_small, other}
+use Rattle.gpu_trace_text.proofs.Reading.{Words, IsOwn, kinds, sets, tells, asks_line, read_back}
 
 -- ---- words
 
-block_kind : (c : blocks.Command) → kinds (block.words c) ≡ tells
+pub block_kind : (c : blocks.Command) → kinds (block.words c) ≡ tells
 block_kind (block_commands.Block side min max count granularity) = refl
 block_kind c = refl
 
-own_kind : (o : Other) → IsOwn (kinds (ask.words o))
+pub own_kind : (o : Other) → IsOwn (kinds (ask.words o))
 own_kind (others.Null key) = tt
 own_kind o = tt
 
@@ -72,7 +69,15 @@ setting_one (Refuse a r) (Refuse b q) f g e =
     ap (λ (n : ℕ). Refuse n q) (decimal_injective b a g.1 f.1 k) ∙ ap (λ (n : Refusal). Refuse a n) (refusal-one r q f.2 g.2 w)
 setting_one s t f g e = absurd (other e refl)
 
-abbrev said : Words Setting Request Other blocks.Command
+pub setting_clean : (s : Setting) → setting.SettingFits s → AreClean (setting.words s)
+setting_clean (Heap size) f = (clean_text (codes "heap") refl, (clean_decimal size f, tt))
+setting_clean (MemoryType flags heap) f = (clean_text (codes "type") refl, (clean_small flags f.0, (clean_small heap f.1, tt)))
+setting_clean (Granularity bytes) f = (clean_text (codes "granularity") refl, (clean_decimal bytes f, tt))
+setting_clean (Sizes device host max_device max_host) f =
+    (clean_text (codes "sizes") refl, (clean_decimal device f.0, (clean_decimal host f.1, (clean_decimal max_device f.2, (clean_decimal max_host f.3, tt)))))
+setting_clean (Refuse question refusal) f = (clean_text (codes "refuse") refl, (clean_decimal question f.1, (clean_refusal refusal f.2, tt)))
+
+abbrev pub said : Words Setting Request Other blocks.Command
 said = record {
   setting = setting.words;
   FitsSetting = setting.SettingFits;
@@ -85,6 +90,7 @@ said = record {
   setting_kind = shared_kind;
   own_kind = own_kind;
   look_kind = block_kind;
+  setting_clean = setting_clean;
   setting_one = setting_one;
 }
 
@@ -146,17 +152,12 @@ same_request r q f h e =
       name = cc;
     }
 
--- ---- commands
+pub reads_back : Global → ReadsBack Means setting.words setting.SettingFits requests.Vulkan FitsCaptured IsRequest
+reads_back g =
+    read_back said requests.Vulkan FitsCaptured IsRequest
+    (record { asked_for = request_of g; fits = fits_request g; spelled = spelled g; clean = clean_request; same = same_request })
 
-pub alloc_reads : Global → (n : ℕ) (r : VulkanRequest) (rest : List ℕ) → n < 2 ^ 64 → FitsCaptured r
-    → BeginsWith Means (IsAlloc n (IsRequest r)) (line_of (alloc_words n (request_words r)) ++ rest) rest
-alloc_reads g n r rest small f =
-    alloc_line said (IsRequest r) n (request_of g r) (request_words r) rest small (fits_request g r f) (spelled g r) (clean_request r f) (λ q h e. same_request r q f h e)
-
-pub move_reads : Global → (n m : ℕ) (r : VulkanRequest) (rest : List ℕ) → n < 2 ^ 64 → m < 2 ^ 64 → FitsCaptured r
-    → BeginsWith Means (IsMove n m (IsRequest r)) (line_of (move_words n m (request_words r)) ++ rest) rest
-move_reads g n m r rest small also f =
-    move_line said (IsRequest r) n m (request_of g r) (request_words r) rest small also (fits_request g r f) (spelled g r) (clean_request r f) (λ q h e. same_request r q f h e)
+-- ---- names
 
 rename_one : (n : ℕ) (name : List ℕ) → n < 2 ^ 64 → (d : Command) → Spells command_words FitsCommand (rename_words n (name_word name)) d → IsRename n name (lines.Asks d)
 rename_one n name small (asked.Other (others.Rename key read)) s =
@@ -169,41 +170,4 @@ rename_one n name small d s = absurd (other s.is refl)
 pub rename_reads : Global → (n : ℕ) (name rest : List ℕ) → n < 2 ^ 64 → BeginsWith Means (IsRename n name) (line_of (rename_words n (name_word name)) ++ rest) rest
 rename_reads g n name rest small =
     asks_line said (IsRename n name) (asked.Other (others.Rename n (text_of g name).0)) (codes "rename") (decimal n ∷ name_word name ∷ []) rest (ap (rename_words n) (sym (text_of g name).1)) tt (small, subst IsName (sym (text_of g name).1) (is_name name))
-    (clean_text (codes "rename") refl, (clean_decimal n small, (clean_name name, tt))) (λ e. absurd (omega arith)) (rename_one n name small)
-
-pub free_reads : (n : ℕ) (rest : List ℕ) → n < 2 ^ 64 → BeginsWith Means (λ l. l ≡ lines.Asks (asked.Free n)) (line_of (free_words n) ++ rest) rest
-free_reads n rest small = free_line said n rest small
-
-pub budget_reads : (t : ℕ) (b : Option ℕ) (rest : List ℕ) → t < 2 ^ 64 → FitsBudget b
-    → BeginsWith Means (λ l. l ≡ lines.Asks (asked.SetBudget t b)) (line_of (budget_words t b) ++ rest) rest
-budget_reads t b rest small f = budget_line said t b rest small f
-
--- ---- settings
-
-pub setting_reads : (s : Setting) (rest : List ℕ) → setting.SettingFits s → BeginsWith Means (λ l. l ≡ lines.Configures s) (line_of (setting.words s) ++ rest) rest
-setting_reads (Heap size) rest f =
-    sets_line said (Heap size) (codes "heap") (decimal size ∷ []) rest refl f
-    (clean_text (codes "heap") refl, (clean_decimal size f, tt)) (λ e. absurd (omega arith))
-setting_reads (MemoryType flags heap) rest f =
-    sets_line said (MemoryType flags heap) (codes "type") (decimal flags ∷ decimal heap ∷ []) rest refl f
-    (clean_text (codes "type") refl, (clean_small flags f.0, (clean_small heap f.1, tt))) (λ e. absurd (omega arith))
-setting_reads (Granularity bytes) rest f =
-    sets_line said (Granularity bytes) (codes "granularity") (decimal bytes ∷ []) rest refl f
-    (clean_text (codes "granularity") refl, (clean_decimal bytes f, tt)) (λ e. absurd (omega arith))
-setting_reads (Sizes device host max_device max_host) rest f =
-    sets_line said (Sizes device host max_device max_host) (codes "sizes") (decimal device ∷ decimal host ∷ decimal max_device ∷ decimal max_host ∷ []) rest refl f
-    (clean_text (codes "sizes") refl, (clean_decimal device f.0, (clean_decimal host f.1, (clean_decimal max_device f.2, (clean_decimal max_host f.3, tt))))) (λ e. absurd (omega arith))
-setting_reads (Refuse question refusal) rest f =
-    sets_line said (Refuse question refusal) (codes "refuse") (decimal question ∷ refusal_word refusal ∷ []) rest refl f
-    (clean_text (codes "refuse") refl, (clean_decimal question f.1, (clean_refusal refusal f.2, tt))) (λ e. absurd (omega arith))
-
--- ---- where configuration and trace end
-
-pub new_reads : (rest : List ℕ) → BeginsWith Means (λ l. l ≡ lines.New) (line_of new_words ++ rest) rest
-new_reads rest = new_line said rest
-
-pub destroy_reads : (rest : List ℕ) → BeginsWith Means (λ l. l ≡ lines.Destroy) (line_of destroy_words ++ rest) rest
-destroy_reads rest = destroy_line said rest
-
-pub ended_reads : (e : CaptureEnd) → (e ≡ Whole → ⊥) → (is_destroyed : Bool) → BeginsWith Means (λ l. l ≡ lines.Blank) (last_line e is_destroyed) []
-ended_reads e early is_destroyed = ended_line said e early is_destroyed
+    (clean_text (codes "rename") refl, (clean_decimal n small, (clean_name name, tt))) (rename_one n name small)

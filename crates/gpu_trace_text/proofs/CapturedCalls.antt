@@ -22,14 +22,14 @@ use Rattle.gpu_trace_text.specs.Line.{Means}
 use Rattle.gpu_trace_text.specs.Setting as setting
 use Rattle.gpu_trace_text.specs.declared.device.setting.Setting.TheVariants.{Heap, Granularity, Sizes}
 use Rattle.gpu_trace_text.proofs.CapturedTrace.{Reader, setting_line, whole_trace, ended_trace}
-use Rattle.gpu_trace_text.proofs.Captured.{alloc_reads, move_reads, free_reads, rename_reads, budget_reads, setting_reads, new_reads, destroy_reads, ended_reads}
+use Rattle.gpu_trace_text.proofs.Captured.{said, reads_back, rename_reads}
 
 call_reads : Global → (c : Call) (rest : List ℕ) → FitsCall c → BeginsWith Means (IsCall c) (call_line c ++ rest) rest
-call_reads g (calls.Allocated number (Vulkan r) answers) rest f = alloc_reads g number r rest f.0 f.1
-call_reads g (calls.Moved from to (Vulkan r)) rest f = move_reads g from to r rest f.0 f.1 f.2
-call_reads g (calls.Freed number) rest f = free_reads number rest f
+call_reads g (calls.Allocated number (Vulkan r) answers) rest f = (reads_back g).allocation number r rest f.0 f.1
+call_reads g (calls.Moved from to (Vulkan r)) rest f = (reads_back g).second_place from to r rest f.0 f.1 f.2
+call_reads g (calls.Freed number) rest f = (reads_back g).free number rest f
 call_reads g (calls.Renamed number name) rest f = rename_reads g number name rest f
-call_reads g (calls.Bounded memory_type budget) rest f = budget_reads memory_type budget rest f.0 f.1
+call_reads g (calls.Bounded memory_type budget) rest f = (reads_back g).budget memory_type budget rest f.0 f.1
 call_reads g (calls.Allocated number (D3D12 r) answers) rest f = absurd f
 call_reads g (calls.Allocated number (Metal r) answers) rest f = absurd f
 call_reads g (calls.Moved from to (D3D12 r)) rest f = absurd f
@@ -45,20 +45,14 @@ answers_fit (calls.Allocated number (Metal r) answers) f = absurd f
 answers_fit (calls.Committed number r answers) f = absurd f
 answers_fit c f = All-nil FitsAnswer
 
-abbrev reader : Global → Reader Means IsCall
+abbrev reader : Global → Reader said IsCall
 reader g = record {
-  words = setting.words;
-  FitsSetting = setting.SettingFits;
   FitsCall = FitsCall;
   refuse = refuse_setting;
   refuse_words_are = λ q. refl;
   refuse_fits = λ q some few fits. (some, few, fits);
   answers_fit = answers_fit;
-  setting_reads = setting_reads;
-  new_reads = new_reads;
   call_reads = call_reads g;
-  destroy_reads = destroy_reads;
-  ended_reads = ended_reads;
 }
 
 -- the lines in front of `new`
@@ -66,9 +60,9 @@ mapped : {A B : Type 0} (f : A → B) (line : B → List ℕ) (xs : List A) → 
 mapped f line [] = refl
 mapped f line (x ∷ xs) = ap (λ (ls : List ℕ). line (f x) ++ ls) (mapped f line xs)
 
-lines_are : (g : Global) (d : VulkanDevice) (sizes : BlockSizes) → vulkan_lines d sizes ≡ flat_map (setting_line Means IsCall (reader g)) (device_settings d sizes)
+lines_are : (g : Global) (d : VulkanDevice) (sizes : BlockSizes) → vulkan_lines d sizes ≡ flat_map (setting_line said IsCall (reader g)) (device_settings d sizes)
 lines_are g d sizes =
-    let line = setting_line Means IsCall (reader g) in
+    let line = setting_line said IsCall (reader g) in
     let heaps = map Heap d.heaps.now in
     let types = map type_setting d.types.now in
     let last = Granularity d.granularity ∷ Sizes sizes.device sizes.host sizes.max_device sizes.max_host ∷ [] in
@@ -101,7 +95,7 @@ pub trace_reads : Global → (device : VulkanDevice) (sizes : BlockSizes) (quest
 trace_reads g device sizes questions cs is_destroyed begun done begins kept whole fit calls_fit =
     let settings = device_settings device sizes in
     let w =
-    whole_trace Means IsCall (reader g) [] settings questions cs is_destroyed begun done (subst (λ (ls : List ℕ). Keeps blank (with_lines blank ls [] questions) begun) (lines_are g device sizes) begins) kept whole
+    whole_trace said IsCall (reader g) [] settings questions cs is_destroyed begun done (subst (λ (ls : List ℕ). Keeps blank (with_lines blank ls [] questions) begun) (lines_are g device sizes) begins) kept whole
     (subst (λ (ls : List ℕ). 0 < length ls) (lines_are g device sizes) (some_lines device sizes)) fit calls_fit in
     subst (ReadsAs Means IsCall (parts_of refuse_setting (device_settings device sizes) questions cs (last_part is_destroyed))) (sym w.1) w.2
 
@@ -112,6 +106,6 @@ pub ended_trace_reads : Global → (device : VulkanDevice) (sizes : BlockSizes) 
 ended_trace_reads g device sizes questions cs is_destroyed begun done begins was kept early fit calls_fit =
     let settings = device_settings device sizes in
     let w =
-    ended_trace Means IsCall (reader g) [] settings questions cs is_destroyed begun done (subst (λ (ls : List ℕ). Keeps blank (with_lines blank ls [] questions) begun) (lines_are g device sizes) begins) was kept early
+    ended_trace said IsCall (reader g) [] settings questions cs is_destroyed begun done (subst (λ (ls : List ℕ). Keeps blank (with_lines blank ls [] questions) begun) (lines_are g device sizes) begins) was kept early
     (subst (λ (ls : List ℕ). 0 < length ls) (lines_are g device sizes) (some_lines device sizes)) fit calls_fit in
     subst (ReadsUpTo Means IsCall (λ written. parts_of refuse_setting (device_settings device sizes) questions written (Remarks ∷ [])) cs) (sym w.1) w.2

@@ -14,13 +14,16 @@ use Rattle.gpu_capture.specs.History.{Call, Kept, RefusedQuestion, call_line, an
 use Rattle.gpu_capture.specs.Keeps.{Keeps, blank, with_lines}
 use Rattle.gpu_capture.specs.Line.{line_of}
 use Rattle.gpu_capture.specs.Words.{refuse_words}
+use Rattle.gpu_capture.proofs.Lines.{IsClean, lines-first}
+use Rattle.gpu_block_session.specs.Run.{lines_of}
 use Rattle.gpu_capture.proofs.Histories.{Tells, history, kept_whole, was_whole}
+use Rattle.gpu_run.specs.declared.command.Command.{Command}
 use Rattle.gpu_trace_text.specs.Captured.{BeginsWith}
-use Rattle.gpu_trace_text.specs.CapturedTrace.{Part, Sets, Makes, Calls, Ends, Remarks, last_part, parts_of, FitsAnswer, IsPart, ReadsAs, ReadsUpTo}
+use Rattle.gpu_trace_text.specs.CapturedTrace.{Part, Sets, Makes, Calls, Ends, Remarks, last_part, parts_of, FitsAnswer, IsOfSort, IsPart, ReadsAs, ReadsUpTo}
 use Rattle.gpu_trace_text.specs.Dialect.{new_words, destroy_words}
 use Rattle.gpu_trace_text.specs.Setting.{FitsRefusal}
 use Rattle.gpu_trace_text.specs.declared.dialect.Line.{Line}
-use Rattle.gpu_trace_text.specs.declared.dialect.Line.TheVariants as lines
+use Rattle.gpu_trace_text.proofs.Reading.{Words, Means, setting_reads, new_reads, destroy_reads, ended_reads}
 
 -- behind a device's lines stands `new`
 new_behind : (device : List ℕ) → 0 < length device → new_line device ≡ line_of new_words
@@ -36,54 +39,51 @@ one_behind (x ∷ rest) some = (x, rest, refl)
 front_all : {A : Type 0} (P : A → Type 0) (xs ys : List A) → All P (xs ++ ys) → All P xs
 front_all P xs ys h k d lt = subst P (get_or_append_left xs ys d k lt) (h k d (omega (arith, lt, length-append xs ys)))
 
--- what a sort of traces reads
-pub record Reader {S C O : Type 0} (Means : List ℕ → Line S C O → Type 0) (IsCall : Call → Line S C O → Type 0) : Type 1 where
-  pub words : S → List (List ℕ)
-  pub FitsSetting : S → Type 0
+-- what a sort of traces reads of calls
+pub record Reader {S R A O : Type 0} (w : Words S R A O) (IsCall : Call → Line S (Command R A) O → Type 0) : Type 1 where
   pub FitsCall : Call → Type 0
   pub refuse : RefusedQuestion → S
-  pub refuse_words_are : (q : RefusedQuestion) → words (refuse q) ≡ refuse_words q.question q.refusal
-  pub refuse_fits : (q : RefusedQuestion) → 0 < q.question → q.question < 2 ^ 64 → FitsRefusal q.refusal → FitsSetting (refuse q)
+  pub refuse_words_are : (q : RefusedQuestion) → w.setting (refuse q) ≡ refuse_words q.question q.refusal
+  pub refuse_fits : (q : RefusedQuestion) → 0 < q.question → q.question < 2 ^ 64 → FitsRefusal q.refusal → w.FitsSetting (refuse q)
   pub answers_fit : (c : Call) → FitsCall c → All FitsAnswer (answers_of c)
-  pub setting_reads : (s : S) (rest : List ℕ) → FitsSetting s → BeginsWith Means (λ l. l ≡ lines.Configures s) (line_of (words s) ++ rest) rest
-  pub new_reads : (rest : List ℕ) → BeginsWith Means (λ l. l ≡ lines.New) (line_of new_words ++ rest) rest
-  pub call_reads : (c : Call) (rest : List ℕ) → FitsCall c → BeginsWith Means (IsCall c) (call_line c ++ rest) rest
-  pub destroy_reads : (rest : List ℕ) → BeginsWith Means (λ l. l ≡ lines.Destroy) (line_of destroy_words ++ rest) rest
-  pub ended_reads : (e : CaptureEnd) → (e ≡ Whole → ⊥) → (is_destroyed : Bool) → BeginsWith Means (λ l. l ≡ lines.Blank) (last_line e is_destroyed) []
+  pub call_reads : (c : Call) (rest : List ℕ) → FitsCall c → BeginsWith (Means w) (IsCall c) (call_line c ++ rest) rest
 
-module _ {S C O : Type 0} (Means : List ℕ → Line S C O → Type 0) (IsCall : Call → Line S C O → Type 0) (r : Reader Means IsCall) where
+module _ {S R A O : Type 0} (w : Words S R A O) (IsCall : Call → Line S (Command R A) O → Type 0) (r : Reader w IsCall) where
+  abbrev Reads : List (Part S) → (text : List ℕ) → Type 0
+  Reads = ReadsAs (Means w) IsCall
+
   abbrev pub setting_line : S → List ℕ
-  setting_line s = line_of (r.words s)
+  setting_line s = line_of (w.setting s)
 
   -- ---- line after line
 
-  whole_ends : (is_destroyed : Bool) → ReadsAs Means IsCall (last_part is_destroyed) (last_line Whole is_destroyed)
+  whole_ends : (is_destroyed : Bool) → Reads (last_part is_destroyed) (last_line Whole is_destroyed)
   whole_ends false = refl
-  whole_ends true = ([], subst (λ (t : List ℕ). BeginsWith Means (IsPart Means IsCall Ends) t []) (append-nil (line_of destroy_words)) (r.destroy_reads []), refl)
+  whole_ends true = ([], subst (λ (t : List ℕ). BeginsWith (Means w) (IsPart (Means w) IsCall Ends) t []) (append-nil (line_of destroy_words)) (destroy_reads w []), refl)
 
-  early_ends : (e : CaptureEnd) → (e ≡ Whole → ⊥) → (is_destroyed : Bool) → ReadsAs Means IsCall (Remarks ∷ []) (last_line e is_destroyed)
-  early_ends e early is_destroyed = ([], r.ended_reads e early is_destroyed, refl)
+  early_ends : (e : CaptureEnd) → (e ≡ Whole → ⊥) → (is_destroyed : Bool) → Reads (Remarks ∷ []) (last_line e is_destroyed)
+  early_ends e early is_destroyed = ([], ended_reads w e early is_destroyed, refl)
 
-  calls_read : (cs : List Call) (last : List (Part S)) (end : List ℕ) → All r.FitsCall cs → ReadsAs Means IsCall last end
-      → ReadsAs Means IsCall (map Calls cs ++ last) (flat_map call_line cs ++ end)
+  calls_read : (cs : List Call) (last : List (Part S)) (end : List ℕ) → All r.FitsCall cs → Reads last end
+      → Reads (map Calls cs ++ last) (flat_map call_line cs ++ end)
   calls_read [] last end f reads = reads
   calls_read (c ∷ cs) last end f reads =
       let rest = flat_map call_line cs ++ end in (
         rest,
-        subst (λ (t : List ℕ). BeginsWith Means (IsPart Means IsCall (Calls c)) t rest) (sym (append_assoc (call_line c) (flat_map call_line cs) end))
+        subst (λ (t : List ℕ). BeginsWith (Means w) (IsPart (Means w) IsCall (Calls c)) t rest) (sym (append_assoc (call_line c) (flat_map call_line cs) end))
             (r.call_reads c rest (All-head r.FitsCall c cs f)),
         calls_read cs last end (All-tail r.FitsCall c cs f) reads,
       )
 
-  settings_read : (ss : List S) (ps : List (Part S)) (rest : List ℕ) → All r.FitsSetting ss → ReadsAs Means IsCall ps rest
-      → ReadsAs Means IsCall (map Sets ss ++ ps) (flat_map setting_line ss ++ rest)
+  settings_read : (ss : List S) (ps : List (Part S)) (rest : List ℕ) → All w.FitsSetting ss → Reads ps rest
+      → Reads (map Sets ss ++ ps) (flat_map setting_line ss ++ rest)
   settings_read [] ps rest f reads = reads
   settings_read (s ∷ ss) ps rest f reads =
       let behind = flat_map setting_line ss ++ rest in (
         behind,
-        subst (λ (t : List ℕ). BeginsWith Means (IsPart Means IsCall (Sets s)) t behind) (sym (append_assoc (setting_line s) (flat_map setting_line ss) rest))
-            (r.setting_reads s behind (All-head r.FitsSetting s ss f)),
-        settings_read ss ps rest (All-tail r.FitsSetting s ss f) reads,
+        subst (λ (t : List ℕ). BeginsWith (Means w) (IsPart (Means w) IsCall (Sets s)) t behind) (sym (append_assoc (setting_line s) (flat_map setting_line ss) rest))
+            (setting_reads w s behind (All-head w.FitsSetting s ss f)),
+        settings_read ss ps rest (All-tail w.FitsSetting s ss f) reads,
       )
 
   -- ---- the questions that were refused
@@ -98,11 +98,11 @@ module _ {S C O : Type 0} (Means : List ℕ → Line S C O → Type 0) (IsCall :
       ap (λ (ls : List ℕ). line_of (refuse_words (before + 1) refusal) ++ ls) (refusals_written (before + 1) rest)
       ∙ ap (λ (ws : List (List ℕ)). line_of ws ++ flat_map setting_line (refusals (before + 1) rest)) (sym (r.refuse_words_are (record { question = before + 1; refusal = refusal })))
 
-  refusals_fit : (before : ℕ) (answers : List Answer) → All FitsAnswer answers → before + length answers < 2 ^ 64 → All r.FitsSetting (refusals before answers)
-  refusals_fit before [] f few = All-nil r.FitsSetting
+  refusals_fit : (before : ℕ) (answers : List Answer) → All FitsAnswer answers → before + length answers < 2 ^ 64 → All w.FitsSetting (refusals before answers)
+  refusals_fit before [] f few = All-nil w.FitsSetting
   refusals_fit before (Granted ∷ rest) f few = refusals_fit (before + 1) rest (All-tail FitsAnswer Granted rest f) (omega arith)
   refusals_fit before (Refused refusal ∷ rest) f few =
-      All-cons r.FitsSetting (r.refuse (record { question = before + 1; refusal = refusal })) (refusals (before + 1) rest)
+      All-cons w.FitsSetting (r.refuse (record { question = before + 1; refusal = refusal })) (refusals (before + 1) rest)
       (r.refuse_fits (record { question = before + 1; refusal = refusal }) (omega arith) (omega arith) (All-head FitsAnswer (Refused refusal) rest f))
       (refusals_fit (before + 1) rest (All-tail FitsAnswer (Refused refusal) rest f) (omega arith))
 
@@ -116,9 +116,9 @@ module _ {S C O : Type 0} (Means : List ℕ → Line S C O → Type 0) (IsCall :
   -- what a capture wrote behind the first lines of its device is read as its settings and the calls that it has
   told_trace : (first : List ℕ) (settings : List S) (questions : ℕ) (cs : List Call) (is_destroyed : Bool) (begun done : CaptureState) (last : List (Part S))
       → Keeps blank (with_lines blank (first ++ flat_map setting_line settings) [] questions) begun → begun.end ≡ Whole → (told : Tells cs begun done)
-      → 0 < length (first ++ flat_map setting_line settings) → All r.FitsSetting settings → All r.FitsCall told.calls
-      → ReadsAs Means IsCall last (last_line done.end is_destroyed)
-      → (rest : List ℕ) × (text done is_destroyed ≡ first ++ rest) × ReadsAs Means IsCall (parts_of r.refuse settings questions told.calls last) rest
+      → 0 < length (first ++ flat_map setting_line settings) → All w.FitsSetting settings → All r.FitsCall told.calls
+      → Reads last (last_line done.end is_destroyed)
+      → (rest : List ℕ) × (text done is_destroyed ≡ first ++ rest) × Reads (parts_of r.refuse settings questions told.calls last) rest
   told_trace first settings questions cs is_destroyed begun done last begins was told some fit calls_fit last_reads =
       let start = kept_whole blank (with_lines blank (first ++ flat_map setting_line settings) [] questions) begun begins was in
       let answers = flat_map answers_of told.calls in
@@ -155,32 +155,32 @@ module _ {S C O : Type 0} (Means : List ℕ → Line S C O → Type 0) (IsCall :
             ∙ ap (λ (d : List ℕ). done.device ++ (line_of new_words ++ (d ++ end))) calls
             ∙ ap (λ (d : List ℕ). d ++ (line_of new_words ++ behind)) device
             ∙ append_assoc first (flat_map setting_line all) (line_of new_words ++ behind),
-        settings_read all (Makes ∷ (map Calls told.calls ++ last)) (line_of new_words ++ behind) (All-append r.FitsSetting settings refused fit refused_fit)
-            (behind, r.new_reads behind, calls_read told.calls last end calls_fit last_reads),
+        settings_read all (Makes ∷ (map Calls told.calls ++ last)) (line_of new_words ++ behind) (All-append w.FitsSetting settings refused fit refused_fit)
+            (behind, new_reads w behind, calls_read told.calls last end calls_fit last_reads),
       )
 
   -- that of a whole capture has all calls
   pub whole_trace : (first : List ℕ) (settings : List S) (questions : ℕ) (cs : List Call) (is_destroyed : Bool) (begun done : CaptureState)
       → Keeps blank (with_lines blank (first ++ flat_map setting_line settings) [] questions) begun → Kept cs begun done → done.end ≡ Whole
-      → 0 < length (first ++ flat_map setting_line settings) → All r.FitsSetting settings → All r.FitsCall cs
-      → (rest : List ℕ) × (text done is_destroyed ≡ first ++ rest) × ReadsAs Means IsCall (parts_of r.refuse settings questions cs (last_part is_destroyed)) rest
+      → 0 < length (first ++ flat_map setting_line settings) → All w.FitsSetting settings → All r.FitsCall cs
+      → (rest : List ℕ) × (text done is_destroyed ≡ first ++ rest) × Reads (parts_of r.refuse settings questions cs (last_part is_destroyed)) rest
   whole_trace first settings questions cs is_destroyed begun done begins kept whole some fit calls_fit =
       let was = was_whole cs begun done kept whole in
       let told = history cs begun done kept was in
       let all : told.calls ≡ cs = sym (told.split ∙ ap (λ (xs : List Call). told.calls ++ xs) (told.whole.0 whole) ∙ append-nil told.calls) in
       let w =
       told_trace first settings questions cs is_destroyed begun done (last_part is_destroyed) begins was told some fit (subst (All r.FitsCall) (sym all) calls_fit)
-      (subst (λ (e : CaptureEnd). ReadsAs Means IsCall (last_part is_destroyed) (last_line e is_destroyed)) (sym whole) (whole_ends is_destroyed)) in (
+      (subst (λ (e : CaptureEnd). Reads (last_part is_destroyed) (last_line e is_destroyed)) (sym whole) (whole_ends is_destroyed)) in (
         w.0,
         w.1,
-        subst (λ (xs : List Call). ReadsAs Means IsCall (parts_of r.refuse settings questions xs (last_part is_destroyed)) w.0) all w.2,
+        subst (λ (xs : List Call). Reads (parts_of r.refuse settings questions xs (last_part is_destroyed)) w.0) all w.2,
       )
 
   -- that of a capture which ended early has the calls up to its end
   pub ended_trace : (first : List ℕ) (settings : List S) (questions : ℕ) (cs : List Call) (is_destroyed : Bool) (begun done : CaptureState)
       → Keeps blank (with_lines blank (first ++ flat_map setting_line settings) [] questions) begun → begun.end ≡ Whole → Kept cs begun done → (done.end ≡ Whole → ⊥)
-      → 0 < length (first ++ flat_map setting_line settings) → All r.FitsSetting settings → All r.FitsCall cs
-      → (rest : List ℕ) × (text done is_destroyed ≡ first ++ rest) × ReadsUpTo Means IsCall (λ written. parts_of r.refuse settings questions written (Remarks ∷ [])) cs rest
+      → 0 < length (first ++ flat_map setting_line settings) → All w.FitsSetting settings → All r.FitsCall cs
+      → (rest : List ℕ) × (text done is_destroyed ≡ first ++ rest) × ReadsUpTo (Means w) IsCall (λ written. parts_of r.refuse settings questions written (Remarks ∷ [])) cs rest
   ended_trace first settings questions cs is_destroyed begun done begins was kept early some fit calls_fit =
       let told = history cs begun done kept was in
       let w =
@@ -197,3 +197,26 @@ module _ {S C O : Type 0} (Means : List ℕ → Line S C O → Type 0) (IsCall :
           reads = w.2;
         },
       )
+
+  -- the same behind a line that tells the sort of traces
+  long : (word : List ℕ) (settings : List S) → 0 < length (line_of (word ∷ []) ++ flat_map setting_line settings)
+  long word settings = omega (arith, length-append (line_of (word ∷ [])) (flat_map setting_line settings), length-append word (10 ∷ []))
+
+  pub whole_of_sort : (word device : List ℕ) (settings : List S) (questions : ℕ) (cs : List Call) (is_destroyed : Bool) (begun done : CaptureState) → IsClean word
+      → device ≡ line_of (word ∷ []) ++ flat_map setting_line settings → Keeps blank (with_lines blank device [] questions) begun → Kept cs begun done → done.end ≡ Whole
+      → All w.FitsSetting settings → All r.FitsCall cs → IsOfSort word (Reads (parts_of r.refuse settings questions cs (last_part is_destroyed))) (text done is_destroyed)
+  whole_of_sort word device settings questions cs is_destroyed begun done clean is begins kept whole fit calls_fit =
+      let found =
+      whole_trace (line_of (word ∷ [])) settings questions cs is_destroyed begun done (subst (λ (ls : List ℕ). Keeps blank (with_lines blank ls [] questions) begun) is begins) kept whole
+      (long word settings) fit calls_fit in
+      record { rest = found.0; split = ap lines_of found.1 ∙ lines-first (word ∷ []) found.0 (clean, tt); reads = found.2 }
+
+  pub ended_of_sort : (word device : List ℕ) (settings : List S) (questions : ℕ) (cs : List Call) (is_destroyed : Bool) (begun done : CaptureState) → IsClean word
+      → device ≡ line_of (word ∷ []) ++ flat_map setting_line settings → Keeps blank (with_lines blank device [] questions) begun → begun.end ≡ Whole → Kept cs begun done
+      → (done.end ≡ Whole → ⊥) → All w.FitsSetting settings → All r.FitsCall cs
+      → IsOfSort word (ReadsUpTo (Means w) IsCall (λ written. parts_of r.refuse settings questions written (Remarks ∷ [])) cs) (text done is_destroyed)
+  ended_of_sort word device settings questions cs is_destroyed begun done clean is begins was kept early fit calls_fit =
+      let found =
+      ended_trace (line_of (word ∷ [])) settings questions cs is_destroyed begun done (subst (λ (ls : List ℕ). Keeps blank (with_lines blank ls [] questions) begun) is begins) was kept early
+      (long word settings) fit calls_fit in
+      record { rest = found.0; split = ap lines_of found.1 ∙ lines-first (word ∷ []) found.0 (clean, tt); reads = found.2 }

@@ -5,13 +5,11 @@ use Rattle.std.specs.Fmt.{decimal, signed_decimal}
 use Rattle.std.specs.declared.alloc.Global.{Global}
 use Rattle.std.proofs.lemmas.Fmt.{decimal_injective, signed_decimal_injective}
 use Rattle.gpu_capture.specs.declared.request.D3D12Request.{D3D12Request}
-use Rattle.gpu_capture.specs.declared.capture.CaptureEnd.{CaptureEnd}
-use Rattle.gpu_capture.specs.declared.capture.CaptureEnd.TheVariants.{Whole}
-use Rattle.gpu_capture.specs.CaptureState.{last_line}
+use Rattle.gpu_capture.specs.declared.request.Request.TheVariants as requests
 use Rattle.gpu_capture.specs.D3D12 as captured
 use Rattle.gpu_capture.specs.D3D12.{d3d12_words}
 use Rattle.gpu_capture.specs.Line.{line_of, name_word}
-use Rattle.gpu_capture.specs.Words.{location_word, refusal_word, alloc_words, budget_words, free_words, move_words, rename_words}
+use Rattle.gpu_capture.specs.Words.{location_word, rename_words}
 use Rattle.gpu_capture.proofs.Lines.{IsClean, AreClean, clean_decimal, clean_signed, clean_name}
 use Rattle.gpu_run.specs.declared.d3d12.command.Request.{Request}
 use Rattle.gpu_run.specs.D3D12Command.{Command}
@@ -20,12 +18,11 @@ use Rattle.gpu_run.specs.declared.d3d12.command.Other.{Other}
 use Rattle.gpu_run.specs.declared.d3d12.command.Other.TheVariants as others
 use Rattle.gpu_block_session.specs.Words.{IsName}
 use Rattle.gpu_trace_text.specs.D3D12Command as command
-use Rattle.gpu_trace_text.specs.Command.{words, CommandFits, FitsBudget}
+use Rattle.gpu_trace_text.specs.Command.{words, CommandFits}
 use Rattle.gpu_trace_text.specs.Spelled.{Spells}
 use Rattle.gpu_trace_text.specs.D3D12Setting as setting
 use Rattle.gpu_trace_text.specs.D3D12Line.{Means, look_words, LookFits}
-use Rattle.gpu_trace_text.specs.Dialect.{new_words, destroy_words}
-use Rattle.gpu_trace_text.specs.Captured.{BeginsWith, IsAlloc, IsMove}
+use Rattle.gpu_trace_text.specs.Captured.{BeginsWith, ReadsBack}
 use Rattle.gpu_trace_text.specs.D3D12Captured.{FitsCaptured, IsRequest, IsRename, category_of}
 use Rattle.gpu_trace_text.specs.declared.device.setting.Setting.TheVariants as shared
 use Rattle.gpu_trace_text.specs.declared.d3d12.line.Look.{Look}
@@ -33,9 +30,9 @@ use Rattle.gpu_trace_text.specs.declared.d3d12.line.Look.TheVariants.{Asked}
 use Rattle.gpu_trace_text.specs.declared.d3d12.setting.Setting.{Setting}
 use Rattle.gpu_trace_text.specs.declared.d3d12.setting.Setting.TheVariants as settings
 use Rattle.gpu_trace_text.specs.declared.dialect.Line.TheVariants as lines
-use Rattle.gpu_trace_text.proofs.CapturedWords.{clean_text, clean_location, clean_budget, location-one, budget-one, is_name, text_of, other, clean_refusal}
-use Rattle.gpu_trace_text.proofs.Captured.{setting_one, shared_kind}
-use Rattle.gpu_trace_text.proofs.Reading.{Words, IsOwn, kinds, sets, tells, asks_line, alloc_line, move_line, free_line, budget_line, sets_line, new_line, destroy_line, ended_line}
+use Rattle.gpu_trace_text.proofs.CapturedWords.{clean_text, clean_location, location-one, is_name, text_of, other}
+use Rattle.gpu_trace_text.proofs.Captured.{setting_clean, setting_one, shared_kind}
+use Rattle.gpu_trace_text.proofs.Reading.{Words, IsOwn, kinds, sets, tells, asks_line, read_back}
 use Rattle.gpu_device.specs.declared.d3d12.types.ResourceHeapTier.TheVariants.{Tier1, Tier2}
 use Rattle.gpu_trace_text.specs.declared.d3d12.setting.Version as versions_of
 use Rattle.gpu_trace_text.specs.declared.d3d12.setting.Version.TheVariants as versions
@@ -49,7 +46,7 @@ use Rattle.gpu_d3d12.specs.declared.category.ResourceCategory.TheVariants as res
 
 -- ---- words
 
-own_kind : (o : Other) → IsOwn (kinds (command.words o))
+pub own_kind : (o : Other) → IsOwn (kinds (command.words o))
 own_kind (others.Rename key name) = tt
 own_kind o = tt
 
@@ -86,6 +83,21 @@ own_setting_one (settings.Shared (shared.Heap size)) (settings.Tier b) f g e = a
 own_setting_one (settings.Shared (shared.Heap size)) (settings.Interface b) f g e = absurd (other e refl)
 own_setting_one s t f g e = absurd (other e refl)
 
+clean_tier : (tier : Result ResourceHeapTier ℤ) → setting.FitsTier tier → AreClean (setting.tier_words tier)
+clean_tier (Ok Tier1) f = (clean_text (codes "1") refl, tt)
+clean_tier (Ok Tier2) f = (clean_text (codes "2") refl, tt)
+clean_tier (Err code) f = (clean_text (codes "refused") refl, (clean_signed code f, tt))
+
+clean_version : (version : versions_of.Version) → IsClean (setting.version_word version)
+clean_version versions.Device = clean_text (codes "device") refl
+clean_version versions.Device10 = clean_text (codes "device10") refl
+clean_version versions.Device12 = clean_text (codes "device12") refl
+
+pub own_setting_clean : (s : Setting) → setting.SettingFits s → AreClean (setting.words s)
+own_setting_clean (settings.Tier tier) f = (clean_text (codes "tier") refl, clean_tier tier f)
+own_setting_clean (settings.Interface version) f = (clean_text (codes "version") refl, (clean_version version, tt))
+own_setting_clean (settings.Shared s) f = setting_clean s f.1
+
 abbrev pub said : Words Setting Request Other Look
 said = record {
   setting = setting.words;
@@ -99,6 +111,7 @@ said = record {
   setting_kind = setting_kind;
   own_kind = own_kind;
   look_kind = look_kind;
+  setting_clean = own_setting_clean;
   setting_one = own_setting_one;
 }
 
@@ -161,17 +174,12 @@ same_request r q f h e =
       name = cc;
     }
 
--- ---- commands
+pub reads_back : Global → ReadsBack Means setting.words setting.SettingFits requests.D3D12 FitsCaptured IsRequest
+reads_back g =
+    read_back said requests.D3D12 FitsCaptured IsRequest
+    (record { asked_for = request_of g; fits = fits_request g; spelled = spelled g; clean = clean_request; same = same_request })
 
-pub alloc_reads : Global → (n : ℕ) (r : D3D12Request) (rest : List ℕ) → n < 2 ^ 64 → FitsCaptured r
-    → BeginsWith Means (IsAlloc n (IsRequest r)) (line_of (alloc_words n (request_words r)) ++ rest) rest
-alloc_reads g n r rest small f =
-    alloc_line said (IsRequest r) n (request_of g r) (request_words r) rest small (fits_request g r f) (spelled g r) (clean_request r f) (λ q h e. same_request r q f h e)
-
-pub move_reads : Global → (n m : ℕ) (r : D3D12Request) (rest : List ℕ) → n < 2 ^ 64 → m < 2 ^ 64 → FitsCaptured r
-    → BeginsWith Means (IsMove n m (IsRequest r)) (line_of (move_words n m (request_words r)) ++ rest) rest
-move_reads g n m r rest small also f =
-    move_line said (IsRequest r) n m (request_of g r) (request_words r) rest small also (fits_request g r f) (spelled g r) (clean_request r f) (λ q h e. same_request r q f h e)
+-- ---- commands of this API alone
 
 rename_one : (n : ℕ) (name : List ℕ) → n < 2 ^ 64 → (d : Command) → Spells command_words FitsCommand (rename_words n (name_word name)) d → IsRename n name (lines.Asks d)
 rename_one n name small (asked.Other (others.Rename key read)) s =
@@ -184,7 +192,7 @@ rename_one n name small d s = absurd (other s.is refl)
 pub rename_reads : Global → (n : ℕ) (name rest : List ℕ) → n < 2 ^ 64 → BeginsWith Means (IsRename n name) (line_of (rename_words n (name_word name)) ++ rest) rest
 rename_reads g n name rest small =
     asks_line said (IsRename n name) (asked.Other (others.Rename n (text_of g name).0)) (codes "rename") (decimal n ∷ name_word name ∷ []) rest (ap (rename_words n) (sym (text_of g name).1)) tt (small, subst IsName (sym (text_of g name).1) (is_name name))
-    (clean_text (codes "rename") refl, (clean_decimal n small, (clean_name name, tt))) (λ e. absurd (omega arith)) (rename_one n name small)
+    (clean_text (codes "rename") refl, (clean_decimal n small, (clean_name name, tt))) (rename_one n name small)
 
 release_one : (n : ℕ) → n < 2 ^ 64 → (d : Command) → Spells command_words FitsCommand (command_words (asked.Other (others.Release n))) d → d ≡ asked.Other (others.Release n)
 release_one n small (asked.Other (others.Release key)) s =
@@ -196,43 +204,4 @@ release_one n small d s = absurd (other s.is refl)
 pub release_reads : (n : ℕ) (rest : List ℕ) → n < 2 ^ 64 → BeginsWith Means (λ l. l ≡ lines.Asks (asked.Other (others.Release n))) (line_of (command_words (asked.Other (others.Release n))) ++ rest) rest
 release_reads n rest small =
     asks_line said (λ l. l ≡ lines.Asks (asked.Other (others.Release n))) (asked.Other (others.Release n)) (codes "release") (decimal n ∷ []) rest refl tt small
-    (clean_text (codes "release") refl, (clean_decimal n small, tt)) (λ e. absurd (omega arith)) (λ d s. ap lines.Asks (release_one n small d s))
-
-pub free_reads : (n : ℕ) (rest : List ℕ) → n < 2 ^ 64 → BeginsWith Means (λ l. l ≡ lines.Asks (asked.Free n)) (line_of (free_words n) ++ rest) rest
-free_reads n rest small = free_line said n rest small
-
-pub budget_reads : (t : ℕ) (b : Option ℕ) (rest : List ℕ) → t < 2 ^ 64 → FitsBudget b
-    → BeginsWith Means (λ l. l ≡ lines.Asks (asked.SetBudget t b)) (line_of (budget_words t b) ++ rest) rest
-budget_reads t b rest small f = budget_line said t b rest small f
-
--- ---- settings
-
-pub setting_reads : (s : Setting) (rest : List ℕ) → setting.SettingFits s → BeginsWith Means (λ l. l ≡ lines.Configures s) (line_of (setting.words s) ++ rest) rest
-setting_reads (settings.Tier (Ok Tier1)) rest f =
-    sets_line said (settings.Tier (Ok Tier1)) (codes "tier") (codes "1" ∷ []) rest refl f (clean_text (codes "tier") refl, (clean_text (codes "1") refl, tt)) (λ e. absurd (omega arith))
-setting_reads (settings.Tier (Ok Tier2)) rest f =
-    sets_line said (settings.Tier (Ok Tier2)) (codes "tier") (codes "2" ∷ []) rest refl f (clean_text (codes "tier") refl, (clean_text (codes "2") refl, tt)) (λ e. absurd (omega arith))
-setting_reads (settings.Tier (Err code)) rest f =
-    sets_line said (settings.Tier (Err code)) (codes "tier") (codes "refused" ∷ signed_decimal code ∷ []) rest refl f (clean_text (codes "tier") refl, (clean_text (codes "refused") refl, (clean_signed code f, tt))) (λ e. absurd (omega arith))
-setting_reads (settings.Interface versions.Device) rest f =
-    sets_line said (settings.Interface versions.Device) (codes "version") (codes "device" ∷ []) rest refl f (clean_text (codes "version") refl, (clean_text (codes "device") refl, tt)) (λ e. absurd (omega arith))
-setting_reads (settings.Interface versions.Device10) rest f =
-    sets_line said (settings.Interface versions.Device10) (codes "version") (codes "device10" ∷ []) rest refl f (clean_text (codes "version") refl, (clean_text (codes "device10") refl, tt)) (λ e. absurd (omega arith))
-setting_reads (settings.Interface versions.Device12) rest f =
-    sets_line said (settings.Interface versions.Device12) (codes "version") (codes "device12" ∷ []) rest refl f (clean_text (codes "version") refl, (clean_text (codes "device12") refl, tt)) (λ e. absurd (omega arith))
-setting_reads (settings.Shared (shared.Sizes device host max_device max_host)) rest f =
-    sets_line said (settings.Shared (shared.Sizes device host max_device max_host)) (codes "sizes") (decimal device ∷ decimal host ∷ decimal max_device ∷ decimal max_host ∷ []) rest refl f (clean_text (codes "sizes") refl, (clean_decimal device f.1.0, (clean_decimal host f.1.1, (clean_decimal max_device f.1.2, (clean_decimal max_host f.1.3, tt))))) (λ e. absurd (omega arith))
-setting_reads (settings.Shared (shared.Refuse question refusal)) rest f =
-    sets_line said (settings.Shared (shared.Refuse question refusal)) (codes "refuse") (decimal question ∷ refusal_word refusal ∷ []) rest refl f (clean_text (codes "refuse") refl, (clean_decimal question f.1.1, (clean_refusal refusal f.1.2, tt))) (λ e. absurd (omega arith))
-setting_reads s rest f = absurd f.0
-
--- ---- where configuration and trace end
-
-pub new_reads : (rest : List ℕ) → BeginsWith Means (λ l. l ≡ lines.New) (line_of new_words ++ rest) rest
-new_reads rest = new_line said rest
-
-pub destroy_reads : (rest : List ℕ) → BeginsWith Means (λ l. l ≡ lines.Destroy) (line_of destroy_words ++ rest) rest
-destroy_reads rest = destroy_line said rest
-
-pub ended_reads : (e : CaptureEnd) → (e ≡ Whole → ⊥) → (is_destroyed : Bool) → BeginsWith Means (λ l. l ≡ lines.Blank) (last_line e is_destroyed) []
-ended_reads e early is_destroyed = ended_line said e early is_destroyed
+    (clean_text (codes "release") refl, (clean_decimal n small, tt)) (λ d s. ap lines.Asks (release_one n small d s))

@@ -206,4 +206,4 @@ create_reads g n r rest small f =
           ),
         ),
       ),
-    ) (λ e. absurd (omega arith)) (create_one n r small f)
+    ) (create_one n r small f)

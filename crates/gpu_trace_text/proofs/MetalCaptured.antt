@@ -5,13 +5,11 @@ use Rattle.std.specs.Fmt.{decimal}
 use Rattle.std.specs.declared.alloc.Global.{Global}
 use Rattle.std.proofs.lemmas.Fmt.{decimal_injective}
 use Rattle.gpu_capture.specs.declared.request.MetalRequest.{MetalRequest}
-use Rattle.gpu_capture.specs.declared.capture.CaptureEnd.{CaptureEnd}
-use Rattle.gpu_capture.specs.declared.capture.CaptureEnd.TheVariants.{Whole}
-use Rattle.gpu_capture.specs.CaptureState.{last_line}
+use Rattle.gpu_capture.specs.declared.request.Request.TheVariants as requests
 use Rattle.gpu_capture.specs.Metal.{metal_words}
 use Rattle.gpu_capture.specs.Line.{line_of, name_word}
-use Rattle.gpu_capture.specs.Words.{location_word, refusal_word, alloc_words, budget_words, free_words, move_words}
-use Rattle.gpu_capture.proofs.Lines.{AreClean, clean_decimal, clean_name}
+use Rattle.gpu_capture.specs.Words.{location_word}
+use Rattle.gpu_capture.proofs.Lines.{IsClean, AreClean, clean_decimal, clean_name}
 use Rattle.gpu_run.specs.declared.metal.command.Request.{Request}
 use Rattle.gpu_run.specs.MetalCommand.{Command}
 use Rattle.gpu_run.specs.declared.command.Command.TheVariants as asked
@@ -19,20 +17,19 @@ use Rattle.gpu_run.specs.declared.metal.command.Other.{Other}
 use Rattle.gpu_run.specs.declared.metal.command.Other.TheVariants as others
 use Rattle.gpu_block_session.specs.Words.{IsName}
 use Rattle.gpu_trace_text.specs.MetalCommand as command
-use Rattle.gpu_trace_text.specs.Command.{words, CommandFits, FitsBudget}
+use Rattle.gpu_trace_text.specs.Command.{words, CommandFits}
 use Rattle.gpu_trace_text.specs.Spelled.{Spells}
 use Rattle.gpu_trace_text.specs.MetalSetting as setting
 use Rattle.gpu_trace_text.specs.MetalLine.{Means, look_words, LookFits}
-use Rattle.gpu_trace_text.specs.Dialect.{new_words, destroy_words}
-use Rattle.gpu_trace_text.specs.Captured.{BeginsWith, IsAlloc, IsMove}
+use Rattle.gpu_trace_text.specs.Captured.{BeginsWith, ReadsBack}
 use Rattle.gpu_trace_text.specs.MetalCaptured.{FitsCaptured, IsRequest}
 use Rattle.gpu_trace_text.specs.declared.device.setting.Setting.TheVariants as shared
 use Rattle.gpu_trace_text.specs.declared.metal.setting.Setting.{Setting}
 use Rattle.gpu_trace_text.specs.declared.metal.setting.Setting.TheVariants as settings
 use Rattle.gpu_trace_text.specs.declared.dialect.Line.TheVariants as lines
-use Rattle.gpu_trace_text.proofs.CapturedWords.{clean_text, clean_location, clean_budget, location-one, budget-one, is_name, text_of, other, clean_refusal}
-use Rattle.gpu_trace_text.proofs.Captured.{setting_one, shared_kind}
-use Rattle.gpu_trace_text.proofs.Reading.{Words, IsOwn, kinds, sets, tells, asks_line, alloc_line, move_line, free_line, budget_line, sets_line, new_line, destroy_line, ended_line}
+use Rattle.gpu_trace_text.proofs.CapturedWords.{clean_text, clean_location, location-one, is_name, text_of, other}
+use Rattle.gpu_trace_text.proofs.Captured.{setting_clean, setting_one, shared_kind}
+use Rattle.gpu_trace_text.proofs.Reading.{Words, IsOwn, kinds, sets, tells, asks_line, read_back}
 use Rattle.gpu_trace_text.specs.declared.metal.line.Look.{Look}
 use Rattle.gpu_trace_text.specs.declared.metal.line.Look.TheVariants.{Members}
 use Rattle.gpu_capture.specs.Metal.{yes_word}
@@ -40,16 +37,16 @@ use Rattle.gpu_block_session.proofs.Canonical.{differ}
 
 -- ---- words
 
-own_kind : (o : Other) → IsOwn (kinds (command.words o))
+pub own_kind : (o : Other) → IsOwn (kinds (command.words o))
 own_kind (others.Buffer key length location name) = tt
 own_kind o = tt
 
-setting_kind : (s : Setting) → kinds (setting.words s) ≡ sets
+pub setting_kind : (s : Setting) → kinds (setting.words s) ≡ sets
 setting_kind (settings.Sets b) = refl
 setting_kind (settings.Residency b) = refl
 setting_kind (settings.Shared s) = shared_kind s
 
-look_kind : (l : Look) → kinds (look_words l) ≡ tells
+pub look_kind : (l : Look) → kinds (look_words l) ≡ tells
 look_kind Members = refl
 look_kind l = refl
 
@@ -58,7 +55,7 @@ yes-one true true e = refl
 yes-one false false e = refl
 yes-one a b e = absurd (differ (yes_word a) (yes_word b) false refl refl e)
 
-own_setting_one : (s t : Setting) → setting.SettingFits s → setting.SettingFits t → setting.words s ≡ setting.words t → t ≡ s
+pub own_setting_one : (s t : Setting) → setting.SettingFits s → setting.SettingFits t → setting.words s ≡ setting.words t → t ≡ s
 own_setting_one (settings.Sets a) (settings.Sets b) f g e = let k : yes_word a ≡ yes_word b = cc in ap settings.Sets (yes-one a b k)
 own_setting_one (settings.Residency a) (settings.Residency b) f g e = let k : yes_word a ≡ yes_word b = cc in ap settings.Residency (yes-one a b k)
 own_setting_one (settings.Shared a) (settings.Shared b) f g e = ap settings.Shared (setting_one a b f.1 g.1 e)
@@ -68,7 +65,16 @@ own_setting_one (settings.Shared (shared.Heap size)) (settings.Sets b) f g e = a
 own_setting_one (settings.Shared (shared.Heap size)) (settings.Residency b) f g e = absurd (other e refl)
 own_setting_one s t f g e = absurd (other e refl)
 
-abbrev said : Words Setting Request Other Look
+clean_yes : (b : Bool) → IsClean (yes_word b)
+clean_yes true = clean_text (codes "yes") refl
+clean_yes false = clean_text (codes "no") refl
+
+pub own_setting_clean : (s : Setting) → setting.SettingFits s → AreClean (setting.words s)
+own_setting_clean (settings.Sets b) f = (clean_text (codes "sets") refl, (clean_yes b, tt))
+own_setting_clean (settings.Residency b) f = (clean_text (codes "residency") refl, (clean_yes b, tt))
+own_setting_clean (settings.Shared s) f = setting_clean s f.1
+
+abbrev pub said : Words Setting Request Other Look
 said = record {
   setting = setting.words;
   FitsSetting = setting.SettingFits;
@@ -81,6 +87,7 @@ said = record {
   setting_kind = setting_kind;
   own_kind = own_kind;
   look_kind = look_kind;
+  setting_clean = own_setting_clean;
   setting_one = own_setting_one;
 }
 
@@ -123,17 +130,12 @@ same_request r q f h e =
       name = cc;
     }
 
--- ---- commands
+pub reads_back : Global → ReadsBack Means setting.words setting.SettingFits requests.Metal FitsCaptured IsRequest
+reads_back g =
+    read_back said requests.Metal FitsCaptured IsRequest
+    (record { asked_for = request_of g; fits = fits_request g; spelled = spelled g; clean = clean_request; same = same_request })
 
-pub alloc_reads : Global → (n : ℕ) (r : MetalRequest) (rest : List ℕ) → n < 2 ^ 64 → FitsCaptured r
-    → BeginsWith Means (IsAlloc n (IsRequest r)) (line_of (alloc_words n (request_words r)) ++ rest) rest
-alloc_reads g n r rest small f =
-    alloc_line said (IsRequest r) n (request_of g r) (request_words r) rest small (fits_request g r f) (spelled g r) (clean_request r f) (λ q h e. same_request r q f h e)
-
-pub move_reads : Global → (n m : ℕ) (r : MetalRequest) (rest : List ℕ) → n < 2 ^ 64 → m < 2 ^ 64 → FitsCaptured r
-    → BeginsWith Means (IsMove n m (IsRequest r)) (line_of (move_words n m (request_words r)) ++ rest) rest
-move_reads g n m r rest small also f =
-    move_line said (IsRequest r) n m (request_of g r) (request_words r) rest small also (fits_request g r f) (spelled g r) (clean_request r f) (λ q h e. same_request r q f h e)
+-- ---- commands of this API alone
 
 commit_one : (d : Command) → Spells command_words FitsCommand (command_words (asked.Other others.Commit)) d → d ≡ (asked.Other others.Commit)
 commit_one (asked.Other others.Commit) s = refl
@@ -142,39 +144,4 @@ commit_one d s = absurd (other s.is refl)
 pub commit_reads : (rest : List ℕ) → BeginsWith Means (λ l. l ≡ lines.Asks (asked.Other others.Commit)) (line_of (codes "commit" ∷ []) ++ rest) rest
 commit_reads rest =
     asks_line said (λ l. l ≡ lines.Asks (asked.Other others.Commit)) (asked.Other others.Commit) (codes "commit") [] rest refl tt tt
-    (clean_text (codes "commit") refl, tt) (λ e. absurd (omega arith)) (λ d s. ap lines.Asks (commit_one d s))
-
-pub free_reads : (n : ℕ) (rest : List ℕ) → n < 2 ^ 64 → BeginsWith Means (λ l. l ≡ lines.Asks (asked.Free n)) (line_of (free_words n) ++ rest) rest
-free_reads n rest small = free_line said n rest small
-
-pub budget_reads : (t : ℕ) (b : Option ℕ) (rest : List ℕ) → t < 2 ^ 64 → FitsBudget b
-    → BeginsWith Means (λ l. l ≡ lines.Asks (asked.SetBudget t b)) (line_of (budget_words t b) ++ rest) rest
-budget_reads t b rest small f = budget_line said t b rest small f
-
--- ---- settings
-
-pub setting_reads : (s : Setting) (rest : List ℕ) → setting.SettingFits s → BeginsWith Means (λ l. l ≡ lines.Configures s) (line_of (setting.words s) ++ rest) rest
-setting_reads (settings.Sets true) rest f =
-    sets_line said (settings.Sets true) (codes "sets") (codes "yes" ∷ []) rest refl f (clean_text (codes "sets") refl, (clean_text (codes "yes") refl, tt)) (λ e. absurd (omega arith))
-setting_reads (settings.Residency true) rest f =
-    sets_line said (settings.Residency true) (codes "residency") (codes "yes" ∷ []) rest refl f (clean_text (codes "residency") refl, (clean_text (codes "yes") refl, tt)) (λ e. absurd (omega arith))
-setting_reads (settings.Sets false) rest f =
-    sets_line said (settings.Sets false) (codes "sets") (codes "no" ∷ []) rest refl f (clean_text (codes "sets") refl, (clean_text (codes "no") refl, tt)) (λ e. absurd (omega arith))
-setting_reads (settings.Residency false) rest f =
-    sets_line said (settings.Residency false) (codes "residency") (codes "no" ∷ []) rest refl f (clean_text (codes "residency") refl, (clean_text (codes "no") refl, tt)) (λ e. absurd (omega arith))
-setting_reads (settings.Shared (shared.Sizes device host max_device max_host)) rest f =
-    sets_line said (settings.Shared (shared.Sizes device host max_device max_host)) (codes "sizes") (decimal device ∷ decimal host ∷ decimal max_device ∷ decimal max_host ∷ []) rest refl f (clean_text (codes "sizes") refl, (clean_decimal device f.1.0, (clean_decimal host f.1.1, (clean_decimal max_device f.1.2, (clean_decimal max_host f.1.3, tt))))) (λ e. absurd (omega arith))
-setting_reads (settings.Shared (shared.Refuse question refusal)) rest f =
-    sets_line said (settings.Shared (shared.Refuse question refusal)) (codes "refuse") (decimal question ∷ refusal_word refusal ∷ []) rest refl f (clean_text (codes "refuse") refl, (clean_decimal question f.1.1, (clean_refusal refusal f.1.2, tt))) (λ e. absurd (omega arith))
-setting_reads s rest f = absurd f.0
-
--- ---- where configuration and trace end
-
-pub new_reads : (rest : List ℕ) → BeginsWith Means (λ l. l ≡ lines.New) (line_of new_words ++ rest) rest
-new_reads rest = new_line said rest
-
-pub destroy_reads : (rest : List ℕ) → BeginsWith Means (λ l. l ≡ lines.Destroy) (line_of destroy_words ++ rest) rest
-destroy_reads rest = destroy_line said rest
-
-pub ended_reads : (e : CaptureEnd) → (e ≡ Whole → ⊥) → (is_destroyed : Bool) → BeginsWith Means (λ l. l ≡ lines.Blank) (last_line e is_destroyed) []
-ended_reads e early is_destroyed = ended_line said e early is_destroyed
+    (clean_text (codes "commit") refl, tt) (λ d s. ap lines.Asks (commit_one d s))

@@ -8,6 +8,8 @@ use Rattle.gpu_capture.specs.declared.capture.CaptureEnd.{CaptureEnd}
 use Rattle.gpu_capture.specs.declared.capture.CaptureEnd.TheVariants.{Whole, TooLong, HostOutOfMemory}
 use Rattle.gpu_capture.specs.CaptureState.{last_line}
 use Rattle.gpu_capture.specs.Line.{line_of}
+use Rattle.gpu_capture.specs.declared.request.Request.{Request}
+use Rattle.gpu_capture.specs.Requests.{alloc_line, move_line, request_words}
 use Rattle.gpu_capture.specs.Words.{budget_word, alloc_words, budget_words, free_words, move_words}
 use Rattle.gpu_capture.proofs.Lines.{AreClean, clean_decimal, joined, joined-printed, lines-first, words-joined}
 use Rattle.gpu_block_session.specs.Line.{IsBlank, IsRemark}
@@ -15,7 +17,7 @@ use Rattle.gpu_block_session.specs.Run.{lines_of}
 use Rattle.gpu_block_session.specs.Words.{words_of}
 use Rattle.gpu_run.specs.declared.command.Command.{Command}
 use Rattle.gpu_run.specs.declared.command.Command.TheVariants as asked
-use Rattle.gpu_trace_text.specs.Captured.{BeginsWith, IsAlloc, IsMove}
+use Rattle.gpu_trace_text.specs.Captured.{BeginsWith, IsAlloc, IsMove, ReadsBack}
 use Rattle.gpu_trace_text.specs.Command.{words, CommandFits, FitsBudget}
 use Rattle.gpu_trace_text.specs.Dialect as dialect
 use Rattle.gpu_trace_text.specs.Dialect.{new_words, destroy_words}
@@ -82,6 +84,26 @@ IsWritten asks = Unit {0}
 IsWritten owns = Unit {0}
 IsWritten k = ⊥
 
+-- what a line begins with that isn't blank
+abbrev pub IsLine : Kind → Type 0
+IsLine remarks = ⊥
+IsLine tells = ⊥
+IsLine k = Unit {0}
+
+hashed : (bs : List ℕ) → IsLine (kind_of (35 ∷ bs)) → ⊥
+hashed [] k = k
+hashed (b ∷ bs) k = k
+
+no_remark : (v : List ℕ) (ws : List (List ℕ)) → IsLine (kind_of v) → IsRemark (joined (v ∷ ws)) → ⊥
+no_remark [] ws k h = k
+no_remark (b ∷ bs) [] k h = hashed bs (subst (λ c. IsLine (kind_of (c ∷ bs))) h k)
+no_remark (b ∷ bs) (v ∷ ws) k h = hashed bs (subst (λ c. IsLine (kind_of (c ∷ bs))) h k)
+
+written_line : (k : Kind) → IsWritten k → IsLine k
+written_line asks h = tt
+written_line owns h = tt
+written_line k h = absurd h
+
 -- the words behind `#` of what ends a capture early
 abbrev too_long : List (List ℕ)
 too_long =
@@ -104,6 +126,7 @@ pub record Words (S R A O : Type 0) : Type 1 where
   pub setting_kind : (s : S) → kinds (setting s) ≡ sets
   pub own_kind : (a : A) → IsOwn (kinds (own a))
   pub look_kind : (o : O) → kinds (look o) ≡ tells
+  pub setting_clean : (s : S) → FitsSetting s → AreClean (setting s)
   pub setting_one : (s t : S) → FitsSetting s → FitsSetting t → setting s ≡ setting t → t ≡ s
 
 own_command : (k : Kind) → IsOwn k → IsCommand k
@@ -127,7 +150,7 @@ module _ {S R A O : Type 0} (w : Words S R A O) where
   abbrev Reads : List (List ℕ) → Said → Type 0
   Reads = dialect.Reads (Spells w.setting w.FitsSetting) (Spells command FitsCommand) (Spells w.look w.FitsLook)
 
-  abbrev Means : List ℕ → Said → Type 0
+  abbrev pub Means : List ℕ → Said → Type 0
   Means = dialect.Means (Spells w.setting w.FitsSetting) (Spells command FitsCommand) (Spells w.look w.FitsLook)
 
   command_kind : (c : Asked) → IsCommand (kinds (command c))
@@ -139,13 +162,13 @@ module _ {S R A O : Type 0} (w : Words S R A O) where
   reads_words line ws is fine plain lines.Bad m = subst (λ (vs : List (List ℕ)). Reads vs lines.Bad) is (m.says fine)
   reads_words line ws is fine plain l m = subst (λ (vs : List (List ℕ)). Reads vs l) is m.reads
 
-  begins : (Is : Said → Type 0) (v : List ℕ) (ws : List (List ℕ)) (rest : List ℕ) → AreClean (v ∷ ws) → (IsRemark (joined (v ∷ ws)) → ⊥) → ((l : Said) → Reads (v ∷ ws) l → Is l)
+  begins : (Is : Said → Type 0) (v : List ℕ) (ws : List (List ℕ)) (rest : List ℕ) → AreClean (v ∷ ws) → IsLine (kind_of v) → ((l : Said) → Reads (v ∷ ws) l → Is l)
       → BeginsWith Means Is (line_of (v ∷ ws) ++ rest) rest
-  begins Is v ws rest clean plain reads = record {
+  begins Is v ws rest clean k reads = record {
     line = joined (v ∷ ws);
     split = lines-first (v ∷ ws) rest clean;
     reads = λ l m.
-        reads l (reads_words (joined (v ∷ ws)) (v ∷ ws) (words-joined v ws clean) (ascii (joined (v ∷ ws)) (joined-printed (v ∷ ws) clean)) plain l m);
+        reads l (reads_words (joined (v ∷ ws)) (v ∷ ws) (words-joined v ws clean) (ascii (joined (v ∷ ws)) (joined-printed (v ∷ ws) clean)) (no_remark v ws k) l m);
   }
 
   -- a command's words are read as a command's of the same words
@@ -160,46 +183,11 @@ module _ {S R A O : Type 0} (w : Words S R A O) where
 
   -- a line of a command that a capture wrote
   pub asks_line : (Is : Said → Type 0) (c : Asked) (v : List ℕ) (ws : List (List ℕ)) (rest : List ℕ) → v ∷ ws ≡ command c → IsWritten (kind_of v) → FitsCommand c → AreClean (v ∷ ws)
-      → (IsRemark (joined (v ∷ ws)) → ⊥) → ((d : Asked) → Spells command FitsCommand (v ∷ ws) d → Is (lines.Asks d)) → BeginsWith Means Is (line_of (v ∷ ws) ++ rest) rest
-  asks_line Is c v ws rest is k f clean plain one =
-      begins Is v ws rest clean plain (λ l reads. let found = asked_only c (v ∷ ws) is k f l reads in subst Is (sym found.1) (one found.0 found.2))
+      → ((d : Asked) → Spells command FitsCommand (v ∷ ws) d → Is (lines.Asks d)) → BeginsWith Means Is (line_of (v ∷ ws) ++ rest) rest
+  asks_line Is c v ws rest is k f clean one =
+      begins Is v ws rest clean (written_line (kind_of v) k) (λ l reads. let found = asked_only c (v ∷ ws) is k f l reads in subst Is (sym found.1) (one found.0 found.2))
 
   -- ---- commands of any API
-
-  alloc_one : (Is : R → Type 0) (n : ℕ) (ws : List (List ℕ)) → n < 2 ^ 64 → ((q : R) → w.FitsRequest q → ws ≡ w.request q → Is q) → (d : Asked)
-      → Spells command FitsCommand (alloc_words n ws) d → IsAlloc {S = S} {O = O} n Is (lines.Asks d)
-  alloc_one Is n ws small one (asked.Alloc key q) s =
-      let i = s.is in
-      let k : decimal key ≡ decimal n = cc in
-      let e : ws ≡ w.request q = cc in
-      (decimal_injective key n s.fits.0 small k, one q s.fits.1 e)
-  alloc_one Is n ws small one (asked.Other a) s = absurd (subst IsOwn (sym (ap kinds s.is)) (w.own_kind a))
-  alloc_one Is n ws small one d s = absurd (other s.is refl)
-
-  -- an allocation, whose request has these words
-  pub alloc_line : (Is : R → Type 0) (n : ℕ) (q : R) (ws : List (List ℕ)) (rest : List ℕ) → n < 2 ^ 64 → w.FitsRequest q → ws ≡ w.request q → AreClean ws
-      → ((p : R) → w.FitsRequest p → ws ≡ w.request p → Is p) → BeginsWith Means (IsAlloc n Is) (line_of (alloc_words n ws) ++ rest) rest
-  alloc_line Is n q ws rest small fits is clean one =
-      asks_line (IsAlloc n Is) (asked.Alloc n q) (codes "alloc") (decimal n ∷ ws) rest (ap (alloc_words n) is) tt (small, fits)
-      (clean_text (codes "alloc") refl, (clean_decimal n small, clean)) (λ e. absurd (omega arith)) (alloc_one Is n ws small one)
-
-  move_one : (Is : R → Type 0) (n m : ℕ) (ws : List (List ℕ)) → n < 2 ^ 64 → m < 2 ^ 64 → ((q : R) → w.FitsRequest q → ws ≡ w.request q → Is q) → (d : Asked)
-      → Spells command FitsCommand (move_words n m ws) d → IsMove {S = S} {O = O} n m Is (lines.Asks d)
-  move_one Is n m ws small also one (asked.Move key to q) s =
-      let i = s.is in
-      let k : decimal key ≡ decimal n = cc in
-      let t : decimal to ≡ decimal m = cc in
-      let e : ws ≡ w.request q = cc in
-      (decimal_injective key n s.fits.0 small k, decimal_injective to m s.fits.1 also t, one q s.fits.2 e)
-  move_one Is n m ws small also one (asked.Other a) s = absurd (subst IsOwn (sym (ap kinds s.is)) (w.own_kind a))
-  move_one Is n m ws small also one d s = absurd (other s.is refl)
-
-  -- a second place
-  pub move_line : (Is : R → Type 0) (n m : ℕ) (q : R) (ws : List (List ℕ)) (rest : List ℕ) → n < 2 ^ 64 → m < 2 ^ 64 → w.FitsRequest q → ws ≡ w.request q → AreClean ws
-      → ((p : R) → w.FitsRequest p → ws ≡ w.request p → Is p) → BeginsWith Means (IsMove n m Is) (line_of (move_words n m ws) ++ rest) rest
-  move_line Is n m q ws rest small also fits is clean one =
-      asks_line (IsMove n m Is) (asked.Move n m q) (codes "move") (decimal n ∷ decimal m ∷ ws) rest (ap (move_words n m) is) tt (small, also, fits)
-      (clean_text (codes "move") refl, (clean_decimal n small, (clean_decimal m also, clean))) (λ e. absurd (omega arith)) (move_one Is n m ws small also one)
 
   free_one : (n : ℕ) → n < 2 ^ 64 → (d : Asked) → Spells command FitsCommand (free_words n) d → d ≡ asked.Free n
   free_one n small (asked.Free key) s =
@@ -209,10 +197,10 @@ module _ {S R A O : Type 0} (w : Words S R A O) where
   free_one n small (asked.Other a) s = absurd (subst IsOwn (sym (ap kinds s.is)) (w.own_kind a))
   free_one n small d s = absurd (other s.is refl)
 
-  pub free_line : (n : ℕ) (rest : List ℕ) → n < 2 ^ 64 → BeginsWith Means (λ l. l ≡ lines.Asks (asked.Free n)) (line_of (free_words n) ++ rest) rest
-  free_line n rest small =
+  pub free_reads : (n : ℕ) (rest : List ℕ) → n < 2 ^ 64 → BeginsWith Means (λ l. l ≡ lines.Asks (asked.Free n)) (line_of (free_words n) ++ rest) rest
+  free_reads n rest small =
       asks_line (λ l. l ≡ lines.Asks (asked.Free n)) (asked.Free n) (codes "free") (decimal n ∷ []) rest refl tt small
-      (clean_text (codes "free") refl, (clean_decimal n small, tt)) (λ e. absurd (omega arith)) (λ d s. ap lines.Asks (free_one n small d s))
+      (clean_text (codes "free") refl, (clean_decimal n small, tt)) (λ d s. ap lines.Asks (free_one n small d s))
 
   budget_one : (t : ℕ) (b : Option ℕ) → t < 2 ^ 64 → FitsBudget b → (d : Asked) → Spells command FitsCommand (budget_words t b) d → d ≡ asked.SetBudget t b
   budget_one t b small f (asked.SetBudget u c) s =
@@ -225,11 +213,11 @@ module _ {S R A O : Type 0} (w : Words S R A O) where
   budget_one t b small f (asked.Other a) s = absurd (subst IsOwn (sym (ap kinds s.is)) (w.own_kind a))
   budget_one t b small f d s = absurd (other s.is refl)
 
-  pub budget_line : (t : ℕ) (b : Option ℕ) (rest : List ℕ) → t < 2 ^ 64 → FitsBudget b
+  pub budget_reads : (t : ℕ) (b : Option ℕ) (rest : List ℕ) → t < 2 ^ 64 → FitsBudget b
       → BeginsWith Means (λ l. l ≡ lines.Asks (asked.SetBudget t b)) (line_of (budget_words t b) ++ rest) rest
-  budget_line t b rest small f =
+  budget_reads t b rest small f =
       asks_line (λ l. l ≡ lines.Asks (asked.SetBudget t b)) (asked.SetBudget t b) (codes "budget") (decimal t ∷ budget_word b ∷ []) rest refl tt (small, f)
-      (clean_text (codes "budget") refl, (clean_decimal t small, (clean_budget b f, tt))) (λ e. absurd (omega arith)) (λ d s. ap lines.Asks (budget_one t b small f d s))
+      (clean_text (codes "budget") refl, (clean_decimal t small, (clean_budget b f, tt))) (λ d s. ap lines.Asks (budget_one t b small f d s))
 
   -- ---- the other lines
 
@@ -241,12 +229,15 @@ module _ {S R A O : Type 0} (w : Words S R A O) where
   setting_closes s f lines.Bad r = absurd (r.setting s (record { is = refl; fits = f }))
   setting_closes s f l r = let e : sets ≡ ends = sym (w.setting_kind s) ∙ ap kinds r in cc
 
+  sets_line : (s : S) (ws : List (List ℕ)) (rest : List ℕ) → w.setting s ≡ ws → w.FitsSetting s → AreClean ws → kinds ws ≡ sets
+      → BeginsWith Means (λ l. l ≡ lines.Configures s) (line_of ws ++ rest) rest
+  sets_line s [] rest is f clean k = absurd (let e : tells ≡ sets = k in cc)
+  sets_line s (v ∷ ws) rest is f clean k =
+      begins (λ l. l ≡ lines.Configures s) v ws rest clean (subst IsLine (sym k) tt) (λ l reads. setting_closes s f l (subst (λ (vs : List (List ℕ)). Reads vs l) (sym is) reads))
+
   -- a line of the configuration
-  pub sets_line : (s : S) (v : List ℕ) (ws : List (List ℕ)) (rest : List ℕ) → w.setting s ≡ v ∷ ws → w.FitsSetting s → AreClean (v ∷ ws) → (IsRemark (joined (v ∷ ws)) → ⊥)
-      → BeginsWith Means (λ l. l ≡ lines.Configures s) (line_of (w.setting s) ++ rest) rest
-  sets_line s v ws rest is f clean plain =
-      subst (λ (vs : List (List ℕ)). BeginsWith Means (λ l. l ≡ lines.Configures s) (line_of vs ++ rest) rest) (sym is)
-      (begins (λ l. l ≡ lines.Configures s) v ws rest clean plain (λ l reads. setting_closes s f l (subst (λ (vs : List (List ℕ)). Reads vs l) (sym is) reads)))
+  pub setting_reads : (s : S) (rest : List ℕ) → w.FitsSetting s → BeginsWith Means (λ l. l ≡ lines.Configures s) (line_of (w.setting s) ++ rest) rest
+  setting_reads s rest f = sets_line s (w.setting s) rest refl f (w.setting_clean s f) (w.setting_kind s)
 
   new_closes : (l : Said) → Reads new_words l → l ≡ lines.New
   new_closes lines.Blank r = absurd r
@@ -267,12 +258,12 @@ module _ {S R A O : Type 0} (w : Words S R A O) where
   destroy_closes lines.Bad r = absurd (r.destroy refl)
 
   -- the line behind the configuration
-  pub new_line : (rest : List ℕ) → BeginsWith Means (λ l. l ≡ lines.New) (line_of new_words ++ rest) rest
-  new_line rest = begins (λ l. l ≡ lines.New) (codes "new") [] rest (clean_text (codes "new") refl, tt) (λ e. absurd (omega arith)) new_closes
+  pub new_reads : (rest : List ℕ) → BeginsWith Means (λ l. l ≡ lines.New) (line_of new_words ++ rest) rest
+  new_reads rest = begins (λ l. l ≡ lines.New) (codes "new") [] rest (clean_text (codes "new") refl, tt) tt new_closes
 
   -- the last line
-  pub destroy_line : (rest : List ℕ) → BeginsWith Means (λ l. l ≡ lines.Destroy) (line_of destroy_words ++ rest) rest
-  destroy_line rest = begins (λ l. l ≡ lines.Destroy) (codes "destroy") [] rest (clean_text (codes "destroy") refl, tt) (λ e. absurd (omega arith)) destroy_closes
+  pub destroy_reads : (rest : List ℕ) → BeginsWith Means (λ l. l ≡ lines.Destroy) (line_of destroy_words ++ rest) rest
+  destroy_reads rest = begins (λ l. l ≡ lines.Destroy) (codes "destroy") [] rest (clean_text (codes "destroy") refl, tt) tt destroy_closes
 
   -- ---- a remark
   remark_closes : (line : List ℕ) (ws : List (List ℕ)) → words_of line ≡ codes "#" ∷ ws → IsBlank line → (l : Said) → Means line l → l ≡ lines.Blank
@@ -298,7 +289,58 @@ module _ {S R A O : Type 0} (w : Words S R A O) where
       }
 
   -- what ends a capture early
-  pub ended_line : (e : CaptureEnd) → (e ≡ Whole → ⊥) → (is_destroyed : Bool) → BeginsWith Means (λ l. l ≡ lines.Blank) (last_line e is_destroyed) []
-  ended_line Whole early is_destroyed = absurd (early refl)
-  ended_line TooLong early is_destroyed = remark_line too_long (clean_words (codes "#" ∷ too_long) refl)
-  ended_line HostOutOfMemory early is_destroyed = remark_line no_memory (clean_words (codes "#" ∷ no_memory) refl)
+  pub ended_reads : (e : CaptureEnd) → (e ≡ Whole → ⊥) → (is_destroyed : Bool) → BeginsWith Means (λ l. l ≡ lines.Blank) (last_line e is_destroyed) []
+  ended_reads Whole early is_destroyed = absurd (early refl)
+  ended_reads TooLong early is_destroyed = remark_line too_long (clean_words (codes "#" ∷ too_long) refl)
+  ended_reads HostOutOfMemory early is_destroyed = remark_line no_memory (clean_words (codes "#" ∷ no_memory) refl)
+
+-- what the requests of captures are read as
+pub record Captures {S R A O : Type 0} (w : Words S R A O) {Q : Type 0} (request : Q → Request) (Fits : Q → Type 0) (Is : Q → R → Type 0) : Type 0 where
+  pub asked_for : Q → R
+  pub fits : (q : Q) → Fits q → w.FitsRequest (asked_for q)
+  pub spelled : (q : Q) → request_words (request q) ≡ w.request (asked_for q)
+  pub clean : (q : Q) → Fits q → AreClean (request_words (request q))
+  pub same : (q : Q) (r : R) → Fits q → w.FitsRequest r → request_words (request q) ≡ w.request r → Is q r
+
+module _ {S R A O : Type 0} (w : Words S R A O) {Q : Type 0} (request : Q → Request) (Fits : Q → Type 0) (Is : Q → R → Type 0) (c : Captures w request Fits Is) where
+  alloc_one : (n : ℕ) (q : Q) → n < 2 ^ 64 → Fits q → (d : Command R A) → Spells (words w.request w.own) (CommandFits w.FitsRequest w.FitsOwn) (alloc_words n (request_words (request q))) d
+      → IsAlloc {S = S} {O = O} n (Is q) (lines.Asks d)
+  alloc_one n q small f (asked.Alloc key r) s =
+      let i = s.is in
+      let k : decimal key ≡ decimal n = cc in
+      let e : request_words (request q) ≡ w.request r = cc in
+      (decimal_injective key n s.fits.0 small k, c.same q r f s.fits.1 e)
+  alloc_one n q small f (asked.Other a) s = absurd (subst IsOwn (sym (ap kinds s.is)) (w.own_kind a))
+  alloc_one n q small f d s = absurd (other s.is refl)
+
+  alloc_reads : (n : ℕ) (q : Q) (rest : List ℕ) → n < 2 ^ 64 → Fits q → BeginsWith (Means w) (IsAlloc n (Is q)) (alloc_line n (request q) ++ rest) rest
+  alloc_reads n q rest small f =
+      asks_line w (IsAlloc n (Is q)) (asked.Alloc n (c.asked_for q)) (codes "alloc") (decimal n ∷ request_words (request q)) rest (ap (alloc_words n) (c.spelled q)) tt (small, c.fits q f)
+      (clean_text (codes "alloc") refl, (clean_decimal n small, c.clean q f)) (alloc_one n q small f)
+
+  move_one : (n m : ℕ) (q : Q) → n < 2 ^ 64 → m < 2 ^ 64 → Fits q → (d : Command R A)
+      → Spells (words w.request w.own) (CommandFits w.FitsRequest w.FitsOwn) (move_words n m (request_words (request q))) d → IsMove {S = S} {O = O} n m (Is q) (lines.Asks d)
+  move_one n m q small also f (asked.Move key to r) s =
+      let i = s.is in
+      let k : decimal key ≡ decimal n = cc in
+      let t : decimal to ≡ decimal m = cc in
+      let e : request_words (request q) ≡ w.request r = cc in
+      (decimal_injective key n s.fits.0 small k, decimal_injective to m s.fits.1 also t, c.same q r f s.fits.2 e)
+  move_one n m q small also f (asked.Other a) s = absurd (subst IsOwn (sym (ap kinds s.is)) (w.own_kind a))
+  move_one n m q small also f d s = absurd (other s.is refl)
+
+  move_reads : (n m : ℕ) (q : Q) (rest : List ℕ) → n < 2 ^ 64 → m < 2 ^ 64 → Fits q → BeginsWith (Means w) (IsMove n m (Is q)) (move_line n m (request q) ++ rest) rest
+  move_reads n m q rest small also f =
+      asks_line w (IsMove n m (Is q)) (asked.Move n m (c.asked_for q)) (codes "move") (decimal n ∷ decimal m ∷ request_words (request q)) rest (ap (move_words n m) (c.spelled q)) tt (small, also, c.fits q f)
+      (clean_text (codes "move") refl, (clean_decimal n small, (clean_decimal m also, c.clean q f))) (move_one n m q small also f)
+
+  pub read_back : ReadsBack (Means w) w.setting w.FitsSetting request Fits Is
+  read_back = record {
+    allocation = alloc_reads;
+    second_place = move_reads;
+    free = free_reads w;
+    budget = budget_reads w;
+    configures = setting_reads w;
+    new = new_reads w;
+    destroy = destroy_reads w;
+  }

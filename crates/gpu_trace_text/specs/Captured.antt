@@ -1,13 +1,18 @@
 -- What the reader makes of the lines that a capture wrote.
-use Rattle.std.specs.Prelude.{◌≡◌, ℕ, ◌∷◌, List, string_bytes}
+use Rattle.std.specs.Prelude.{◌≡◌, ℕ, ◌<◌, ◌^◌, ◌∷◌, ◌++◌, List, Option, string_bytes}
 use Rattle.gpu_capture.specs.declared.request.VulkanRequest.{VulkanRequest}
-use Rattle.gpu_capture.specs.Line.{name_word}
+use Rattle.gpu_capture.specs.declared.request.Request as requests
+use Rattle.gpu_capture.specs.Line.{line_of, name_word}
+use Rattle.gpu_capture.specs.Requests.{alloc_line, move_line}
+use Rattle.gpu_capture.specs.Words.{budget_words, free_words}
 use Rattle.gpu_run.specs.declared.vulkan.command.Request.{Request}
 use Rattle.gpu_run.specs.declared.command.Command as commands
-use Rattle.gpu_run.specs.declared.command.Command.TheVariants.{Alloc, Move, Other}
+use Rattle.gpu_run.specs.declared.command.Command.TheVariants.{Alloc, Move, Free, SetBudget, Other}
 use Rattle.gpu_run.specs.declared.vulkan.command.Other.TheVariants.{Rename}
 use Rattle.gpu_block_session.specs.Run.{lines_of}
 use Rattle.gpu_trace_text.specs.Ask.{FitsRequirements, FitsScheme}
+use Rattle.gpu_trace_text.specs.Command.{FitsBudget}
+use Rattle.gpu_trace_text.specs.Dialect.{new_words, destroy_words}
 use Rattle.gpu_trace_text.specs.Line.{Line}
 use Rattle.gpu_trace_text.specs.declared.dialect.Line as all_lines
 use Rattle.gpu_trace_text.specs.declared.dialect.Line.TheVariants as lines
@@ -27,6 +32,23 @@ IsAlloc number Is _ = ⊥
 abbrev pub IsMove : {S R A O : Type 0} → (from to : ℕ) → (R → Type 0) → all_lines.Line S (commands.Command R A) O → Type 0
 IsMove from to Is (lines.Asks (Move key second q)) = (key ≡ from) × (second ≡ to) × Is q
 IsMove from to Is _ = ⊥
+
+-- Each line that a capture writes is read as what it was written of, and as nothing else: by what a line means, the words of settings and
+-- what they fit, and the requests of captures with what they fit and what is read of them.
+pub record ReadsBack {S R A O Q : Type 0} (Means : List ℕ → all_lines.Line S (commands.Command R A) O → Type 0) (setting : S → List (List ℕ)) (FitsSetting : S → Type 0)
+    (request : Q → requests.Request) (Fits : Q → Type 0) (Is : Q → R → Type 0) : Type 0 where
+  -- an allocation: its number, what was asked for, and its name as a trace has it
+  pub allocation : (number : ℕ) (q : Q) (rest : List ℕ) → number < 2 ^ 64 → Fits q → BeginsWith Means (IsAlloc number (Is q)) (alloc_line number (request q) ++ rest) rest
+  -- a second place that was asked for
+  pub second_place : (from to : ℕ) (q : Q) (rest : List ℕ) → from < 2 ^ 64 → to < 2 ^ 64 → Fits q → BeginsWith Means (IsMove from to (Is q)) (move_line from to (request q) ++ rest) rest
+  pub free : (number : ℕ) (rest : List ℕ) → number < 2 ^ 64 → BeginsWith Means (λ l. l ≡ lines.Asks (Free number)) (line_of (free_words number) ++ rest) rest
+  pub budget : (t : ℕ) (budget : Option ℕ) (rest : List ℕ) → t < 2 ^ 64 → FitsBudget budget
+      → BeginsWith Means (λ l. l ≡ lines.Asks (SetBudget t budget)) (line_of (budget_words t budget) ++ rest) rest
+  -- the reader's words of a setting are the capture's
+  pub configures : (s : S) (rest : List ℕ) → FitsSetting s → BeginsWith Means (λ l. l ≡ lines.Configures s) (line_of (setting s) ++ rest) rest
+  -- the end of the configuration, and that of the trace
+  pub new : (rest : List ℕ) → BeginsWith Means (λ l. l ≡ lines.New) (line_of new_words ++ rest) rest
+  pub destroy : (rest : List ℕ) → BeginsWith Means (λ l. l ≡ lines.Destroy) (line_of destroy_words ++ rest) rest
 
 -- what a request's numbers may be; its name may be any bytes
 pub record FitsCaptured (r : VulkanRequest) : Type 0 where
