@@ -1,6 +1,6 @@
 -- A committed resource that a capture wrote reads back.
-use Rattle.std.proofs.Common.{◌≡◌, refl, sym, ap, ◌∙◌, subst, ℕ, ◌+◌, ◌*◌, ◌/◌, ◌<◌, ◌^◌, ◌==◌, List, [], ◌∷◌, ◌++◌, length, map, Option, Some, None, Bool, true, false, if◌then◌else◌, arith}
-use Rattle.std.specs.Prelude.{codes, string_bytes, nat_lt}
+use Rattle.std.proofs.Common.{◌≡◌, refl, sym, ap, ◌∙◌, subst, ℕ, ◌+◌, ◌*◌, ◌/◌, ◌<◌, ◌^◌, ◌==◌, List, [], ◌∷◌, ◌++◌, map, Option, Some, None, Bool, true, false, if◌then◌else◌, arith}
+use Rattle.std.specs.Prelude.{codes, nat_lt}
 use Rattle.std.specs.Fmt.{decimal}
 use Rattle.std.specs.List.{slice_split}
 use Rattle.std.specs.declared.alloc.Global.{Global}
@@ -12,7 +12,6 @@ use denote.RawPtr.{null_ptr}
 use Rattle.gpu_values.specs.declared.memory_location.MemoryLocation.{MemoryLocation}
 use Rattle.gpu_device.specs.declared.d3d12.types.ClearValue.{ClearValue}
 use Rattle.gpu_device.specs.declared.d3d12.types.Format.{Format}
-use Rattle.gpu_device.specs.declared.d3d12.types.ResourceDesc.{ResourceDesc}
 use Rattle.gpu_device.specs.declared.d3d12.types.ResourceDimension.{ResourceDimension}
 use Rattle.gpu_device.specs.declared.d3d12.types.ResourceDimension.TheVariants as dimensions
 use Rattle.gpu_d3d12.specs.Heaps.{heap_properties}
@@ -21,7 +20,7 @@ use Rattle.gpu_d3d12.specs.declared.question.ResourceStateOrBarrierLayout.TheVar
 use Rattle.gpu_capture.specs.declared.request.D3D12Request.{D3D12Request}
 use Rattle.gpu_capture.specs.D3D12 as captured
 use Rattle.gpu_capture.specs.D3D12.{committed_words, whole_units}
-use Rattle.gpu_capture.specs.Line.{line_of, name_word}
+use Rattle.gpu_capture.specs.Line.{name_word}
 use Rattle.gpu_capture.specs.Requests.{committed_line}
 use Rattle.gpu_capture.specs.Words.{location_word}
 use Rattle.gpu_capture.proofs.Lines.{clean_decimal, clean_name}
@@ -39,7 +38,7 @@ use Rattle.gpu_trace_text.specs.D3D12Captured.{category_of}
 use Rattle.gpu_trace_text.specs.D3D12Command as command
 use Rattle.gpu_trace_text.specs.D3D12Line.{Means}
 use Rattle.gpu_trace_text.specs.D3D12Numbers.{IsSeparator, AreNumbers, numbers_word}
-use Rattle.gpu_trace_text.specs.D3D12Resource.{category_word, dimension_word, initial_word, formats_word, clear_word, place_word, plain_desc, wanted_words, FitsClear, FitsDesc, FitsFormats, FitsInitial, FitsMemory, FitsWanted}
+use Rattle.gpu_trace_text.specs.D3D12Resource.{category_word, dimension_word, initial_word, formats_word, clear_word, place_word, plain_desc, wanted_words, FitsClear, FitsFormats, FitsInitial, FitsMemory, FitsWanted}
 use Rattle.gpu_trace_text.specs.Spelled.{Spells}
 use Rattle.gpu_trace_text.specs.declared.dialect.Line.TheVariants as lines
 use Rattle.gpu_trace_text.proofs.CapturedWords.{clean_text, clean_location, location-one, is_name, none_digits, text_of, first_differs, other}

@@ -1,5 +1,5 @@
 -- What the reader makes of the calls and the device of a Metal allocator's capture.
-use Rattle.std.specs.Prelude.{◌≡◌, ℕ, ◌<◌, ◌^◌, List, [], ◌∷◌, All, Bool}
+use Rattle.std.specs.Prelude.{◌≡◌, ◌<◌, ◌^◌, List, [], ◌∷◌, All, Bool}
 use Rattle.gpu_capture.specs.declared.device.BlockSizes.{BlockSizes}
 use Rattle.gpu_capture.specs.declared.request.Request.TheVariants.{Metal}
 use Rattle.gpu_capture.specs.History as calls

@@ -1,5 +1,5 @@
 -- What the reader of Metal traces makes of the lines that a capture wrote.
-use Rattle.std.specs.Prelude.{◌≡◌, ℕ, ◌<◌, ◌^◌, string_bytes}
+use Rattle.std.specs.Prelude.{◌≡◌, ◌<◌, ◌^◌, string_bytes}
 use Rattle.gpu_capture.specs.declared.request.MetalRequest.{MetalRequest}
 use Rattle.gpu_capture.specs.Line.{name_word}
 use Rattle.gpu_run.specs.declared.metal.command.Request.{Request}
