@@ -1,6 +1,6 @@
 //! Laws of captures, each the contract of a function that does nothing: what a capture wrote reads back.
 
-ghost use Rattle.std.specs.Prelude.{◌≡◌, ◌≢◌, ℕ, ◌<◌, ◌^◌, ◌++◌, ◌∷◌, List, Option, [], All, Bool};
+ghost use Rattle.std.specs.Prelude.{◌≡◌, ◌≢◌, ℕ, ◌<◌, ◌^◌, ◌++◌, ◌∷◌, List, [], All, Bool};
 ghost use Rattle.gpu_capture.specs.declared.request.Request.TheVariants.{Vulkan};
 ghost use Rattle.gpu_capture.specs.Line.{line_of, name_word};
 ghost use Rattle.gpu_capture.specs.Words.{rename_words};
@@ -14,7 +14,6 @@ ghost use Rattle.gpu_capture.specs.Keeps.{Keeps, blank, with_lines};
 ghost use Rattle.gpu_trace_text.specs.Captured.{BeginsWith, FitsCaptured, IsRequest, IsRename, ReadsBack};
 ghost use Rattle.gpu_trace_text.specs.Line.{Means};
 ghost use Rattle.gpu_trace_text.specs.Setting.{words as setting_words, SettingFits as FitsSetting};
-ghost use Rattle.gpu_trace_text.specs.declared.dialect.Line.TheVariants as lines;
 ghost use Rattle.gpu_trace_text.specs.CapturedCalls.{FitsCall, IsCall, refuse_setting, device_settings};
 ghost use Rattle.gpu_trace_text.specs.CapturedTrace.{Remarks, ReadsAs, ReadsUpTo, last_part, parts_of};
 

@@ -1,6 +1,6 @@
 //! What a command of a DirectX 12 trace says that is no other API's.
 
-ghost use Rattle.std.specs.Prelude.{◌≡◌, ◌∷◌, IfOk, codes};
+ghost use Rattle.std.specs.Prelude.{◌∷◌, IfOk, codes};
 ghost use Rattle.gpu_block_session.specs.Words.{texts};
 ghost use Rattle.gpu_trace_text.specs.D3D12Command.{words, OtherFits};
 ghost use Rattle.gpu_trace_text.specs.Spelled.{Says};

@@ -1,6 +1,6 @@
 //! What a configuration line of a Metal trace says.
 
-ghost use Rattle.std.specs.Prelude.{◌≡◌, ◌≢◌, ◌∷◌, Bool, IfOk, MatchOption, codes};
+ghost use Rattle.std.specs.Prelude.{◌≡◌, ◌≢◌, ◌∷◌, Bool, MatchOption, codes};
 ghost use Rattle.gpu_block_session.specs.Words.{texts};
 ghost use Rattle.gpu_capture.specs.Metal.{yes_word};
 ghost use Rattle.gpu_trace_text.specs.MetalSetting.{words, SettingFits};
