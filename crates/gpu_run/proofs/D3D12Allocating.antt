@@ -21,7 +21,8 @@ use Rattle.gpu_run.proofs.Binding.{bind_same}
 use Rattle.gpu_run.specs.D3D12Command.{Alloc, Rename, Under}
 use Rattle.gpu_run.specs.D3D12Describe.{Wanted, AsksFor}
 use Rattle.gpu_run.specs.D3D12Reply as replies
-use Rattle.gpu_run.specs.D3D12Reply.{SessionReply, shown}
+use Rattle.gpu_run.specs.D3D12Reply.{SessionReply}
+use Rattle.gpu_run.specs.Shown.{shown}
 use Rattle.gpu_run.specs.D3D12Session.{Binds, Names}
 use Rattle.gpu_run.specs.D3D12Served.{SessionValue, session_of, IsAnswered}
 use Rattle.gpu_run.proofs.D3D12Counting.{allocate_leaves, pool_leaves}

@@ -22,7 +22,8 @@ use Rattle.gpu_run.specs.Bindings.{bind, bindings_of}
 use Rattle.gpu_run.specs.D3D12Command.{Create, UnderResource}
 use Rattle.gpu_run.specs.D3D12Describe.{AsksForResource}
 use Rattle.gpu_run.specs.D3D12Reply as replies
-use Rattle.gpu_run.specs.D3D12Reply.{SessionReply, Shown, ShownResource, shown, shown_resource}
+use Rattle.gpu_run.specs.D3D12Reply.{SessionReply, ShownResource, shown_resource}
+use Rattle.gpu_run.specs.Shown.{Shown, shown}
 use Rattle.gpu_run.specs.D3D12Session.{BindsResource, IsKept}
 use Rattle.gpu_run.specs.D3D12Served.{SessionValue, session_of, IsAnswered, journal_after}
 use Rattle.gpu_run.specs.declared.d3d12.command.WantedResource.{WantedResource}
@@ -30,7 +31,7 @@ use Rattle.gpu_run.proofs.D3D12Growing.{create_grows}
 use Rattle.gpu_run.proofs.D3D12Serving.{serves_resource_at, constant_by, answered_by}
 
 -- what is shown of the piece that a resource lies in
-abbrev pub shown_piece : Option Allocation → Option Shown
+abbrev pub shown_piece : Option Allocation → Option (Shown ID3D12Heap)
 shown_piece piece = option_map (λ a. shown a.memory_type_index (piece_of a)) piece
 
 piece_shown : (t : ℕ) (d : ResourceCreateDesc) (piece : Option (Piece ID3D12Heap)) (a : Option Allocation) → LiesIn t d piece a → shown_piece a ≡ option_map (shown t) piece

@@ -18,7 +18,8 @@ use Rattle.gpu_run.specs.Bindings.{bind, bindings_of}
 use Rattle.gpu_run.specs.D3D12Command.{Move, Under}
 use Rattle.gpu_run.specs.D3D12Describe.{Wanted, AsksFor}
 use Rattle.gpu_run.specs.D3D12Reply as replies
-use Rattle.gpu_run.specs.D3D12Reply.{SessionReply, shown}
+use Rattle.gpu_run.specs.D3D12Reply.{SessionReply}
+use Rattle.gpu_run.specs.Shown.{shown}
 use Rattle.gpu_run.specs.D3D12Session.{CommandEnvironment, BindsPlace, ServesMove}
 use Rattle.gpu_run.specs.D3D12Served.{SessionValue, session_of, IsAnswered}
 use Rattle.gpu_run.proofs.D3D12Counting.{move_leaves}

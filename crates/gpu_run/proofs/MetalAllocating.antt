@@ -18,7 +18,8 @@ use Rattle.gpu_run.specs.Bindings.{bind, bindings_of}
 use Rattle.gpu_run.specs.MetalCommand.{Alloc, Under}
 use Rattle.gpu_run.specs.MetalDescribe.{Described, described, Describes}
 use Rattle.gpu_run.specs.MetalReply as replies
-use Rattle.gpu_run.specs.MetalReply.{SessionReply, shown}
+use Rattle.gpu_run.specs.MetalReply.{SessionReply}
+use Rattle.gpu_run.specs.Shown.{shown}
 use Rattle.gpu_run.specs.MetalSession.{SessionState, Binds, AllocatesBy}
 use Rattle.gpu_run.specs.MetalServed.{SessionValue, session_of, IsConstant, IsAnswered}
 use Rattle.gpu_run.specs.declared.metal.describe.Wanted.{Wanted}

@@ -16,7 +16,8 @@ use Rattle.gpu_run.specs.Bindings.{bind, bindings_of}
 use Rattle.gpu_run.specs.MetalCommand.{Move, Under}
 use Rattle.gpu_run.specs.MetalDescribe.{Described, AsksFor}
 use Rattle.gpu_run.specs.MetalReply as replies
-use Rattle.gpu_run.specs.MetalReply.{SessionReply, shown}
+use Rattle.gpu_run.specs.MetalReply.{SessionReply}
+use Rattle.gpu_run.specs.Shown.{shown}
 use Rattle.gpu_run.specs.MetalSession.{CommandEnvironment, BindsPlace, ServesMove}
 use Rattle.gpu_run.specs.MetalServed.{SessionValue, session_of, IsConstant, IsAnswered}
 use Rattle.gpu_run.proofs.MetalServing.{serves_at, answered_by}

@@ -1,6 +1,5 @@
 -- What a session answers.
 use Rattle.std.specs.Prelude.{ℕ, List, map, Option, string_bytes}
-use Rattle.std.specs.Int.NonZero.{non_zero_u64_get}
 use Rattle.std.specs.Option.{option_map}
 use Rattle.gpu_values.specs.Refusal.{Refusal, refusal_of}
 use Rattle.gpu_values.specs.Report as reports
@@ -8,29 +7,20 @@ use Rattle.gpu_values.specs.Report.{report_of}
 use Rattle.gpu_core.specs.declared.piece.Piece.{Piece}
 use Rattle.gpu_device.specs.declared.d3d12.types.ID3D12Heap.{ID3D12Heap}
 use Rattle.gpu_d3d12.specs.declared.question.CommittedAllocationStatistics.{CommittedAllocationStatistics}
-use Rattle.gpu_run.specs.declared.d3d12.reply.Allocated.{Allocated as AllocatedPiece}
+use Rattle.gpu_run.specs.Shown.{Shown, shown, shown_of}
 use Rattle.gpu_run.specs.declared.d3d12.reply.Made.{Made as MadeResource}
 use Rattle.gpu_run.specs.declared.d3d12.reply.Reply.{Reply}
 use Rattle.gpu_run.specs.declared.d3d12.reply.Reply.TheVariants as answered
-
--- what is shown of a piece
-pub record Shown : Type 0 where
-  pub memory_type : ℕ
-  pub slot : ℕ
-  pub offset : ℕ
-  pub size : ℕ
-  pub chunk : ℕ
-  pub heap : ID3D12Heap
 
 -- what is shown of a new resource: the driver's handle of it, its size, and its piece where it is placed
 pub record ShownResource : Type 0 where
   pub number : ℕ
   pub size : ℕ
-  pub piece : Option Shown
+  pub piece : Option (Shown ID3D12Heap)
 
 -- the reply to a command
 pub data SessionReply : Type 0 where
-  Allocated : (shown : Shown) → SessionReply
+  Allocated : (shown : Shown ID3D12Heap) → SessionReply
   Made : (shown : ShownResource) → SessionReply
   Done : SessionReply
   Leaks : (texts : List (List ℕ)) → SessionReply
@@ -44,17 +34,9 @@ pub data SessionReply : Type 0 where
   Unbound : SessionReply
   Error : (refusal : Refusal) → SessionReply
 
--- what is shown of a piece of the t-th memory type
-abbrev pub shown : (t : ℕ) → Piece ID3D12Heap → Shown
-shown t p = record { memory_type = t; slot = p.slot; offset = p.offset; size = p.size; chunk = non_zero_u64_get p.chunk_id; heap = p.handle }
-
 -- what is shown of a resource of the t-th memory type, of this number and size, in this piece where it is placed
 abbrev pub shown_resource : (t : ℕ) → Option (Piece ID3D12Heap) → (number size : ℕ) → ShownResource
 shown_resource t piece number size = record { number = number; size = size; piece = option_map (shown t) piece }
-
--- what a reply tells of a piece
-abbrev pub shown_of : AllocatedPiece → Shown
-shown_of g = record { memory_type = g.memory_type; slot = g.slot; offset = g.offset; size = g.size; chunk = non_zero_u64_get g.chunk; heap = g.heap }
 
 -- what a reply tells of a resource
 abbrev pub shown_made : MadeResource → ShownResource

@@ -28,7 +28,8 @@ use Rattle.gpu_run.specs.Bindings.{Bindings, bind, AreOwn}
 use Rattle.gpu_run.specs.D3D12Command.{KeyCommand, Alloc, Move, Free, Rename, ResourceCommand, Create, Release, SessionCommand, Under, UnderResource, Leaks, Report, Capacity, Committed, SetBudget}
 use Rattle.gpu_run.specs.D3D12Describe.{Wanted, AsksFor, AsksForResource}
 use Rattle.gpu_run.specs.D3D12Reply as replies
-use Rattle.gpu_run.specs.D3D12Reply.{SessionReply, Allocated, Made, Done, NoPlace, Busy, Unbound, Error, shown, shown_resource}
+use Rattle.gpu_run.specs.D3D12Reply.{SessionReply, Allocated, Made, Done, NoPlace, Busy, Unbound, Error, shown_resource}
+use Rattle.gpu_run.specs.Shown.{shown}
 use Rattle.gpu_run.specs.declared.d3d12.command.WantedResource.{WantedResource}
 
 -- ---- states

@@ -1,4 +1,5 @@
 pub mod Bindings
+pub mod Shown
 pub mod VulkanCommand
 pub mod VulkanReply
 pub mod VulkanSession

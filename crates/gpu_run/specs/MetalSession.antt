@@ -17,7 +17,8 @@ use Rattle.gpu_run.specs.Bindings.{Bindings, bind, AreOwn}
 use Rattle.gpu_run.specs.MetalCommand.{KeyCommand, Alloc, Move, Free, SessionCommand, Under, Heaps, Commit, Report, Capacity, SetBudget}
 use Rattle.gpu_run.specs.MetalDescribe.{Described, described, AsksFor}
 use Rattle.gpu_run.specs.MetalReply as replies
-use Rattle.gpu_run.specs.MetalReply.{SessionReply, Allocated, Done, NoPlace, Busy, Unbound, Error, shown}
+use Rattle.gpu_run.specs.MetalReply.{SessionReply, Allocated, Done, NoPlace, Busy, Unbound, Error}
+use Rattle.gpu_run.specs.Shown.{shown}
 use Rattle.gpu_run.specs.declared.metal.describe.Wanted.{Wanted}
 
 -- ---- states

@@ -10,30 +10,25 @@ use Rattle.gpu_device.specs.declared.d3d12.types.HeapContent.{HeapContent}
 use Rattle.gpu_device.specs.declared.d3d12.types.HeapContent.TheVariants.{All, Buffers, RtDsTextures, NonRtDsTextures}
 use Rattle.gpu_device.specs.declared.d3d12.types.HeapDesc.{HeapDesc}
 use Rattle.gpu_device.specs.declared.d3d12.types.HeapType.{HeapType}
+use Rattle.gpu_device.specs.declared.d3d12.types.ID3D12Heap.{ID3D12Heap}
 use Rattle.gpu_device.specs.declared.d3d12.types.HeapType.TheVariants.{Default, Upload, Readback, Custom}
 use Rattle.gpu_device.specs.declared.d3d12.types.MemoryPool.{MemoryPool}
 use Rattle.gpu_device.specs.declared.d3d12.types.MemoryPool.TheVariants as pools
 use Rattle.gpu_d3d12.specs.declared.question.CommittedAllocationStatistics.{CommittedAllocationStatistics}
 use Rattle.gpu_d3d12.specs.declared.question.ResourceStateOrBarrierLayout.{ResourceStateOrBarrierLayout}
-use Rattle.gpu_run.specs.declared.d3d12.reply.Allocated.{Allocated}
+use Rattle.gpu_run.specs.declared.allocated.Allocated.{Allocated}
 use Rattle.gpu_run.specs.declared.d3d12.reply.Made.{Made as MadeResource}
 use Rattle.gpu_run.specs.declared.d3d12.reply.Reply as told
 use Rattle.gpu_run.specs.declared.d3d12.reply.Reply.TheVariants as replies
-use Rattle.gpu_trace_text.specs.DeviceReply.{leaks_text, report_text}
+use Rattle.gpu_trace_text.specs.DeviceReply.{leaks_text, place_in_heap, report_text}
 use Rattle.gpu_trace_text.specs.D3D12Resource.{clear_word, initial_word}
 use Rattle.gpu_trace_text.specs.declared.d3d12.reply.Reply.{Reply}
 use Rattle.gpu_trace_text.specs.declared.d3d12.reply.Reply.TheVariants.{Made, Refused, Served, Asked, Held}
 
 -- ---- pieces and resources
 
--- the place of a new allocation, and its heap
-abbrev pub allocated_text : Allocated → List ℕ
-allocated_text g =
-    codes "ok type " ++ (decimal g.memory_type ++ (codes " slot " ++ (decimal g.slot ++ (codes " offset " ++ (decimal g.offset ++ (codes " size " ++ (decimal g.size
-    ++ (codes " chunk " ++ (decimal (non_zero_u64_get g.chunk) ++ (codes " heap " ++ decimal g.heap.0))))))))))
-
 -- where a placed resource lies
-abbrev pub place_text : Option Allocated → List ℕ
+abbrev pub place_text : Option (Allocated ID3D12Heap) → List ℕ
 place_text None = []
 place_text (Some g) =
     codes " type " ++ (decimal g.memory_type ++ (codes " slot " ++ (decimal g.slot ++ (codes " offset " ++ (decimal g.offset
@@ -115,7 +110,7 @@ asked_text questions heap formats clear initial =
 
 -- what a session answered to a command
 abbrev pub served_text : told.Reply → List ℕ
-served_text (replies.Allocated g) = allocated_text g
+served_text (replies.Allocated g) = place_in_heap g g.heap.0
 served_text (replies.Made m) = made_text m
 served_text replies.Done = codes "ok"
 served_text (replies.Leaks texts) = leaks_text (map string_bytes texts.items)

@@ -6,6 +6,7 @@ use Rattle.std.specs.Int.NonZero.{non_zero_u64_get}
 use Rattle.gpu_values.specs.declared.report.AllocatorReport.{AllocatorReport}
 use Rattle.gpu_values.specs.declared.report.MemoryBlockReport.{MemoryBlockReport}
 use Rattle.gpu_values.specs.Report.{row_of}
+use Rattle.gpu_run.specs.declared.allocated.Allocated as pieces
 use Rattle.gpu_run.specs.declared.vulkan.reply.Allocated.{Allocated}
 use Rattle.gpu_run.specs.declared.vulkan.reply.Reply as told
 use Rattle.gpu_run.specs.declared.vulkan.reply.Reply.TheVariants as replies
@@ -23,6 +24,12 @@ abbrev pub allocated_text : Allocated → List ℕ
 allocated_text g =
     codes "ok type " ++ (decimal g.memory_type ++ (codes " slot " ++ (decimal g.slot ++ (codes " offset " ++ (decimal g.offset ++ (codes " size " ++ (decimal g.size
     ++ (codes " chunk " ++ (decimal (non_zero_u64_get g.chunk) ++ (codes " dedicated " ++ (bool_text g.dedicated ++ (codes " mapped " ++ bool_text g.mapped))))))))))))
+
+-- the place of a new allocation in the heap of that number
+abbrev pub place_in_heap : {H : Type 0} → pieces.Allocated H → (heap : ℕ) → List ℕ
+place_in_heap g heap =
+    codes "ok type " ++ (decimal g.memory_type ++ (codes " slot " ++ (decimal g.slot ++ (codes " offset " ++ (decimal g.offset ++ (codes " size " ++ (decimal g.size
+    ++ (codes " chunk " ++ (decimal (non_zero_u64_get g.chunk) ++ (codes " heap " ++ decimal heap))))))))))
 
 -- a live block: its size and the range of its pieces, and the end of its line
 abbrev pub block_line : MemoryBlockReport → List ℕ

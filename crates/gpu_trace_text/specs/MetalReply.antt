@@ -2,25 +2,17 @@
 use Rattle.std.specs.Prelude.{ℕ, List, [], ◌∷◌, ◌++◌, length, Option, Some, None, codes}
 use Rattle.std.specs.List.{flat_map}
 use Rattle.std.specs.Fmt.{decimal}
-use Rattle.std.specs.Int.NonZero.{non_zero_u64_get}
 use Rattle.gpu_block_session.specs.ErrorNumber.{number_of, number_text}
 use Rattle.gpu_device.specs.declared.metal.types.CpuCacheMode.{CpuCacheMode}
 use Rattle.gpu_device.specs.declared.metal.types.CpuCacheMode.TheVariants.{DefaultCache, WriteCombined}
 use Rattle.gpu_device.specs.declared.metal.types.HeapDescriptor.{HeapDescriptor}
 use Rattle.gpu_device.specs.declared.metal.types.MTLHeap.{MTLHeap}
-use Rattle.gpu_run.specs.declared.metal.reply.Allocated.{Allocated}
 use Rattle.gpu_run.specs.declared.metal.reply.Reply as told
 use Rattle.gpu_run.specs.declared.metal.reply.Reply.TheVariants as replies
-use Rattle.gpu_trace_text.specs.DeviceReply.{report_text}
+use Rattle.gpu_trace_text.specs.DeviceReply.{place_in_heap, report_text}
 use Rattle.gpu_trace_text.specs.MetalCommand.{mode_word}
 use Rattle.gpu_trace_text.specs.declared.metal.reply.Reply.{Reply}
 use Rattle.gpu_trace_text.specs.declared.metal.reply.Reply.TheVariants.{Made, Refused, Served, Members, Committed, NoSet, Asked, Held}
-
--- the place of a new allocation, and its heap
-abbrev pub allocated_text : Allocated → List ℕ
-allocated_text g =
-    codes "ok type " ++ (decimal g.memory_type ++ (codes " slot " ++ (decimal g.slot ++ (codes " offset " ++ (decimal g.offset ++ (codes " size " ++ (decimal g.size
-    ++ (codes " chunk " ++ (decimal (non_zero_u64_get g.chunk) ++ (codes " heap " ++ decimal g.heap.0))))))))))
 
 -- a heap and the end of its line
 abbrev pub heap_line : MTLHeap → List ℕ
@@ -51,7 +43,7 @@ asked_text questions (Some q) =
 
 -- what a session answered to a command
 abbrev pub served_text : told.Reply → List ℕ
-served_text (replies.Allocated g) = allocated_text g
+served_text (replies.Allocated g) = place_in_heap g g.heap.0
 served_text replies.Done = codes "ok"
 served_text (replies.Heaps heaps) = heaps_text heaps.items
 served_text (replies.Report r) = report_text r

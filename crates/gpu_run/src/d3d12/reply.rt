@@ -3,20 +3,9 @@
 use gpu_d3d12::CommittedAllocationStatistics;
 use gpu_device::d3d12::{ID3D12Heap, ID3D12Resource};
 use gpu_values::{AllocationError, AllocatorReport};
-use std::num::NonZeroU64;
 
-/// What is told of a piece. Offset and size are bytes.
-#[derive(Clone, Copy, Debug, PartialEq, Eq)]
-pub struct Allocated {
-    pub memory_type: usize,
-    pub slot: usize,
-    pub offset: u64,
-    pub size: u64,
-    /// Its number in its block.
-    pub chunk: NonZeroU64,
-    /// The heap that it lies in.
-    pub heap: ID3D12Heap,
-}
+/// What is told of a piece.
+pub type Allocated = crate::Allocated<ID3D12Heap>;
 
 /// What is told of a new resource.
 #[derive(Clone, Copy, Debug, PartialEq, Eq)]

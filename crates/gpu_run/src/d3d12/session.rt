@@ -14,14 +14,16 @@ ghost use Rattle.gpu_run.specs.D3D12Command as commands;
 ghost use Rattle.gpu_run.specs.D3D12Command.{Alloc, Move, Free, Rename, Create, Release, Under, UnderResource, command_of, other_of};
 ghost use Rattle.gpu_run.specs.D3D12Describe.{Wanted, AsksFor, AsksForResource};
 ghost use Rattle.gpu_run.specs.D3D12Reply as replies;
-ghost use Rattle.gpu_run.specs.D3D12Reply.{reply_of, shown, shown_of, shown_resource};
+ghost use Rattle.gpu_run.specs.D3D12Reply.{reply_of};
+ghost use Rattle.gpu_run.specs.Shown.{shown, shown_of};
 ghost use Rattle.gpu_run.specs.D3D12Session.{SessionInvariant};
 ghost use Rattle.gpu_run.specs.D3D12Served.{session_of, IsConstant, IsAnswered, ServesCommand};
 ghost use Rattle.gpu_run.specs.declared.d3d12.command.WantedResource.{WantedResource};
 
+use crate::allocated::told;
 use crate::d3d12::command::{Command, Other, WantedResource};
 use crate::d3d12::describe::{describe, describe_piece, resource_type};
-use crate::d3d12::reply::{Allocated, Made, Reply};
+use crate::d3d12::reply::{Made, Reply};
 use crate::{Serve, bind};
 use gpu_d3d12::{
     Allocation, AllocationCreateDesc, Allocator, ID3D12DeviceVersion, Resource, ResourceCreateDesc,
@@ -217,7 +219,7 @@ impl<D: D3D12Device> Session<D> {
         match self.allocator.allocate(log, desc) {
             Err(error) => Reply::Error(error),
             Ok(allocation) => {
-                let given = allocated(&allocation);
+                let given = told(&allocation);
                 bind(&mut self.bound, key, allocation);
                 Reply::Allocated(given)
             }
@@ -245,7 +247,7 @@ impl<D: D3D12Device> Session<D> {
             Err(error) => Reply::Error(error),
             Ok(None) => Reply::NoPlace,
             Ok(Some(second)) => {
-                let given = allocated(&second);
+                let given = told(&second);
                 bind(&mut self.bound, to, second);
                 Reply::Allocated(given)
             }
@@ -355,23 +357,6 @@ impl<D: D3D12Device> Session<D> {
     }
 }
 
-/// What is told of a piece.
-fn allocated(allocation: &Allocation) -> Allocated
-    ensures { shown_of result ≡ shown allocation.now.memory_type_index (piece_of allocation.now) }
-{
-    let Some(chunk) = allocation.chunk_id() else {
-        unreachable!()
-    };
-    Allocated {
-        memory_type: allocation.memory_type_index(),
-        slot: allocation.memory_block_index(),
-        offset: allocation.offset(),
-        size: allocation.size(),
-        chunk,
-        heap: allocation.heap(),
-    }
-}
-
 /// What is told of a new resource.
 fn made(resource: &Resource) -> Made
     ensures number { result.resource ≡ resource.now.resource }
@@ -384,7 +369,7 @@ fn made(resource: &Resource) -> Made
         size: resource.size(),
         piece: match resource.allocation() {
             None => None,
-            Some(allocation) => Some(allocated(allocation)),
+            Some(allocation) => Some(told(allocation)),
         },
     }
 }

@@ -2,20 +2,9 @@
 
 use gpu_device::metal::MTLHeap;
 use gpu_values::{AllocationError, AllocatorReport};
-use std::num::NonZeroU64;
 
-/// What is told of a new allocation. Offset and size are bytes.
-#[derive(Clone, Copy, Debug, PartialEq, Eq)]
-pub struct Allocated {
-    pub memory_type: usize,
-    pub slot: usize,
-    pub offset: u64,
-    pub size: u64,
-    /// Its number in its block.
-    pub chunk: NonZeroU64,
-    /// The heap that it lies in.
-    pub heap: MTLHeap,
-}
+/// What is told of a piece.
+pub type Allocated = crate::Allocated<MTLHeap>;
 
 /// The reply to a command. `Allocated`, `Heaps` and `Report` may in their place be `Error(HostOutOfMemory)`; then the command changed
 /// nothing but what the device counts of questions that it was asked before.

@@ -9,15 +9,14 @@ ghost use Rattle.gpu_block_session.specs.CommandList.{IsRun};
 ghost use Rattle.gpu_run.specs.MetalCommand as commands;
 ghost use Rattle.gpu_run.specs.MetalDescribe.{Described, AsksFor};
 ghost use Rattle.gpu_run.specs.MetalCommand.{Alloc, Move, Free, Under, command_of, other_of};
-ghost use Rattle.gpu_run.specs.MetalReply as replies;
-ghost use Rattle.gpu_run.specs.MetalReply.{reply_of, shown};
+ghost use Rattle.gpu_run.specs.MetalReply.{reply_of};
 ghost use Rattle.gpu_run.specs.MetalSession.{SessionInvariant};
 ghost use Rattle.gpu_run.specs.MetalServed.{session_of, IsConstant, IsAnswered, ServesCommand};
-ghost use Rattle.gpu_pool.specs.Allocation.{piece_of};
 
+use crate::allocated::told;
 use crate::metal::command::{Command, Other};
 use crate::metal::describe::{Wanted, describe, describe_piece, wanted_piece};
-use crate::metal::reply::{Allocated, Reply};
+use crate::metal::reply::Reply;
 use crate::{Serve, bind};
 use gpu_device::metal::MetalDevice;
 use gpu_metal::{Allocation, AllocationCreateDesc, Allocator};
@@ -205,9 +204,9 @@ impl<D: MetalDevice> Session<D> {
         match self.allocator.allocate(log, &desc) {
             Err(error) => Reply::Error(error),
             Ok(allocation) => {
-                let given = allocated(&allocation);
+                let given = told(&allocation);
                 bind(&mut self.bound, key, allocation);
-                given
+                Reply::Allocated(given)
             }
         }
     }
@@ -234,9 +233,9 @@ impl<D: MetalDevice> Session<D> {
             Err(error) => Reply::Error(error),
             Ok(None) => Reply::NoPlace,
             Ok(Some(second)) => {
-                let given = allocated(&second);
+                let given = told(&second);
                 bind(&mut self.bound, to, second);
-                given
+                Reply::Allocated(given)
             }
         }
     }
@@ -293,22 +292,4 @@ impl<D: MetalDevice> Session<D> {
             Err(error) => Reply::Error(error),
         }
     }
-}
-
-/// What is told of a new allocation.
-fn allocated(allocation: &Allocation) -> Reply
-    ensures { reply_of result ≡ replies.Allocated
-        (shown allocation.now.memory_type_index (piece_of allocation.now)) }
-{
-    let Some(chunk) = allocation.chunk_id() else {
-        unreachable!()
-    };
-    Reply::Allocated(Allocated {
-        memory_type: allocation.memory_type_index(),
-        slot: allocation.memory_block_index(),
-        offset: allocation.offset(),
-        size: allocation.size(),
-        chunk,
-        heap: allocation.heap(),
-    })
 }

@@ -2,10 +2,10 @@
 
 ghost use Rattle.std.specs.Prelude.{◌≡◌, Some};
 ghost use Rattle.std.specs.Fmt.{DisplaysOnOk};
-ghost use Rattle.gpu_trace_text.specs.D3D12Reply.{allocated_text, place_text, made_text, statistics_text, type_text, page_text, pool_text, content_text};
+ghost use Rattle.gpu_trace_text.specs.D3D12Reply.{place_text, made_text, statistics_text, type_text, page_text, pool_text, content_text};
 ghost use Rattle.gpu_trace_text.specs.D3D12Reply.{heap_text, formats_text, clear_text, initial_text, asked_text, served_text};
 
-use crate::device::reply::{write_leaks, write_report};
+use crate::device::reply::{write_leaks, write_place_in_heap, write_report};
 use gpu_d3d12::{CommittedAllocationStatistics, ResourceStateOrBarrierLayout};
 use gpu_device::d3d12::{ClearValue, CpuPageProperty, HeapContent, HeapDesc, HeapType, MemoryPool};
 use gpu_run::d3d12::{Allocated, Made, Reply as Told};
@@ -32,26 +32,6 @@ pub enum Reply {
     },
     /// How many heaps and resources the device holds.
     Held(u64),
-}
-
-fn write_allocated<W: fmt::Write>(given: &Allocated, f: &mut fmt::Formatter<W>) -> fmt::Result
-    ensures { DisplaysOnOk W.write_str_gives f.old result (Some (allocated_text given.now)) f.new }
-{
-    let Allocated {
-        memory_type,
-        slot,
-        offset,
-        size,
-        chunk,
-        heap,
-    } = *given;
-    let chunk = chunk.get();
-    let heap = heap.0;
-    write!(
-        f,
-        "ok type {memory_type} slot {slot} offset {offset} size {size}"
-    )?;
-    write!(f, " chunk {chunk} heap {heap}")
 }
 
 /// Where a placed resource lies.
@@ -226,7 +206,7 @@ fn write_told<W: fmt::Write>(told: &Told, f: &mut fmt::Formatter<W>) -> fmt::Res
     ensures { DisplaysOnOk W.write_str_gives f.old result (Some (served_text told.now)) f.new }
 {
     match told {
-        Told::Allocated(given) => write_allocated(given, f),
+        Told::Allocated(given) => write_place_in_heap(given, given.heap.0, f),
         Told::Made(made) => write_made(made, f),
         Told::Done => write!(f, "ok"),
         Told::Leaks(texts) => write_leaks(texts, f),

@@ -6,7 +6,7 @@ ghost use Rattle.std.specs.Fmt.{DisplaysOnOk};
 ghost use Rattle.gpu_values.specs.Report.{row_of};
 ghost use Rattle.gpu_block_session.specs.BlockReply.{piece_line};
 ghost use Rattle.gpu_trace_text.specs.Hex.{hex, hex_byte, hex_digit};
-ghost use Rattle.gpu_trace_text.specs.DeviceReply.{bool_text, allocated_text, block_line, leak_line, leaks_text, report_text, served_text};
+ghost use Rattle.gpu_trace_text.specs.DeviceReply.{bool_text, allocated_text, place_in_heap, block_line, leak_line, leaks_text, report_text, served_text};
 
 use gpu_block_session::text::reply::write_pieces;
 use gpu_run::vulkan::{Allocated, Reply as Told};
@@ -53,6 +53,26 @@ fn write_allocated<W: fmt::Write>(given: &Allocated, f: &mut fmt::Formatter<W>) 
         "ok type {memory_type} slot {slot} offset {offset} size {size}"
     )?;
     write!(f, " chunk {chunk} dedicated {dedicated} mapped {mapped}")
+}
+
+/// A new allocation in the heap of that number.
+pub fn write_place_in_heap<H, W: fmt::Write>(
+    given: &gpu_run::Allocated<H>,
+    heap: u64,
+    f: &mut fmt::Formatter<W>,
+) -> fmt::Result
+    ensures { DisplaysOnOk W.write_str_gives f.old result (Some (place_in_heap given.now heap)) f.new }
+{
+    let memory_type = given.memory_type;
+    let slot = given.slot;
+    let offset = given.offset;
+    let size = given.size;
+    let chunk = given.chunk.get();
+    write!(
+        f,
+        "ok type {memory_type} slot {slot} offset {offset} size {size}"
+    )?;
+    write!(f, " chunk {chunk} heap {heap}")
 }
 
 fn digit(value: u8) -> &'static str

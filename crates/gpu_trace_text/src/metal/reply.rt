@@ -3,11 +3,11 @@
 ghost use Rattle.std.specs.Prelude.{◌≡◌, Some};
 ghost use Rattle.std.specs.Fmt.{DisplaysOnOk};
 ghost use Rattle.gpu_trace_text.specs.MetalCommand.{mode_word};
-ghost use Rattle.gpu_trace_text.specs.MetalReply.{allocated_text, heap_line, heaps_text, number_word, listed_text, cache_text, asked_text, served_text};
+ghost use Rattle.gpu_trace_text.specs.MetalReply.{heap_line, heaps_text, number_word, listed_text, cache_text, asked_text, served_text};
 
-use crate::device::reply::write_report;
+use crate::device::reply::{write_place_in_heap, write_report};
 use gpu_device::metal::{CpuCacheMode, HeapDescriptor, MTLHeap, StorageMode};
-use gpu_run::metal::{Allocated, Reply as Told};
+use gpu_run::metal::Reply as Told;
 use gpu_run::{ErrorNumber, number_of};
 use std::fmt;
 
@@ -36,26 +36,6 @@ pub enum Reply {
         count: u64,
         members: u64,
     },
-}
-
-fn write_allocated<W: fmt::Write>(given: &Allocated, f: &mut fmt::Formatter<W>) -> fmt::Result
-    ensures { DisplaysOnOk W.write_str_gives f.old result (Some (allocated_text given.now)) f.new }
-{
-    let Allocated {
-        memory_type,
-        slot,
-        offset,
-        size,
-        chunk,
-        heap,
-    } = *given;
-    let chunk = chunk.get();
-    let heap = heap.0;
-    write!(
-        f,
-        "ok type {memory_type} slot {slot} offset {offset} size {size}"
-    )?;
-    write!(f, " chunk {chunk} heap {heap}")
 }
 
 fn write_heap<W: fmt::Write>(heap: MTLHeap, f: &mut fmt::Formatter<W>) -> fmt::Result
@@ -139,7 +119,7 @@ fn write_told<W: fmt::Write>(told: &Told, f: &mut fmt::Formatter<W>) -> fmt::Res
     ensures { DisplaysOnOk W.write_str_gives f.old result (Some (served_text told.now)) f.new }
 {
     match told {
-        Told::Allocated(given) => write_allocated(given, f),
+        Told::Allocated(given) => write_place_in_heap(given, given.heap.0, f),
         Told::Done => write!(f, "ok"),
         Told::Heaps(heaps) => write_heaps(heaps, f),
         Told::Report(report) => write_report(report, f),

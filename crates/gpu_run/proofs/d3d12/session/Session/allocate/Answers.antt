@@ -8,7 +8,7 @@ use Rattle.gpu_run.specs.Bindings.{bindings_of}
 use Rattle.gpu_run.proofs.Binding.{some_bound, none_bound, same_bindings, bound_after}
 use Rattle.gpu_run.specs.D3D12Command.{Alloc, Under}
 use Rattle.gpu_run.specs.D3D12Reply as replies
-use Rattle.gpu_run.specs.D3D12Reply.{shown_of}
+use Rattle.gpu_run.specs.Shown.{shown_of}
 use Rattle.gpu_run.specs.D3D12Served.{SessionValue, session_of, IsAnswered}
 use Rattle.gpu_run.proofs.D3D12Allocating.{allocated, not_allocated}
 use Rattle.gpu_run.proofs.D3D12Counting.{allocate_leaves}
@@ -80,6 +80,6 @@ returns-in-Ok g c = λ w asks.
     let constant = c.allocate.ensures.constant in
     let a = c.in-Ok.allocation in
     let is = bound_after s.bound c.reserve.new.self.entries new.bound c.args.key (Some a) c.reserve.ensures.entries.2 c.bind.ensures in
-    subst (λ x. IsAnswered V (Under c.args.key (Alloc w)) (replies.Allocated (shown_of c.allocated-given.result)) x new) c.self.view_is
+    subst (λ x. IsAnswered V (Under c.args.key (Alloc w)) (replies.Allocated (shown_of c.told-given.result)) x new) c.self.view_is
     (allocated V g.met.D.D3D12Device.refused_is s new c.args.key constant.0 constant.1 refl c.allocate.ensures.journal w c.args.desc.now asks none a
-    (replies.Allocated (shown_of c.allocated-given.result)) is c.in-Ok.ensures.step (ap replies.Allocated c.allocated-given.ensures))
+    (replies.Allocated (shown_of c.told-given.result)) is c.in-Ok.ensures.step (ap replies.Allocated c.told-given.ensures))

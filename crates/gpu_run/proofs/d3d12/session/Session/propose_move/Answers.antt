@@ -10,7 +10,7 @@ use Rattle.gpu_d3d12.specs.Step.{IsMoveStep}
 use Rattle.gpu_run.specs.Bindings.{bindings_of}
 use Rattle.gpu_run.proofs.Binding.{some_bound, none_bound, same_bindings, bound_after}
 use Rattle.gpu_run.specs.D3D12Reply as replies
-use Rattle.gpu_run.specs.D3D12Reply.{shown_of}
+use Rattle.gpu_run.specs.Shown.{shown_of}
 use Rattle.gpu_run.specs.D3D12Command.{Move, Under}
 use Rattle.gpu_run.specs.D3D12Session.{ServesMove}
 use Rattle.gpu_run.specs.D3D12Served.{SessionValue, session_of, IsAnswered}
@@ -126,7 +126,7 @@ returns-in-Ok-Some g c =
     let found : bindings_of s.bound c.args.key ≡ Some c.in-Some.from.now = sym (c.in-Some.ensures.value ∙ c.reserve.ensures.entries.2 c.args.key) in
     let none = none_bound (lookup (nat_eq c.args.to) s.bound) c.contains_key-2.result c.contains_key-2.ensures c.if-contains_key.false in
     let others = c.propose_move.ensures.others in
-    λ w asks. subst (λ x. IsAnswered V (Under c.args.key (Move c.args.to w)) (replies.Allocated (shown_of c.allocated-given.result)) x new) c.self.view_is
+    λ w asks. subst (λ x. IsAnswered V (Under c.args.key (Move c.args.to w)) (replies.Allocated (shown_of c.told-given.result)) x new) c.self.view_is
     (placed V g.met.D.D3D12Device.refused_is s new c.args.key c.args.to (ap (λ (t : State g.row.D.Denot). t.first) others) (ap (λ (t : State g.row.D.Denot). t.setup) others) refl
     (ap (λ (t : State g.row.D.Denot). t.journal) others) w c.args.desc.now asks c.in-Some.from.now found none
-    to (replies.Allocated (shown_of c.allocated-given.result)) bound step (ap replies.Allocated c.allocated-given.ensures))
+    to (replies.Allocated (shown_of c.told-given.result)) bound step (ap replies.Allocated c.told-given.ensures))

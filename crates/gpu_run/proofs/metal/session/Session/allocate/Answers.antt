@@ -10,7 +10,7 @@ use Rattle.gpu_run.proofs.Binding.{some_bound, none_bound, same_bindings, bound_
 use Rattle.gpu_run.proofs.Owning.{own_bound}
 use Rattle.gpu_run.specs.MetalDescribe.{described, Describes}
 use Rattle.gpu_run.specs.MetalReply as replies
-use Rattle.gpu_run.specs.MetalReply.{reply_of}
+use Rattle.gpu_run.specs.Shown.{shown_of}
 use Rattle.gpu_run.specs.MetalCommand.{Alloc, Under}
 use Rattle.gpu_run.specs.MetalServed.{SessionValue, session_of, IsAnswered}
 use Rattle.gpu_run.proofs.MetalServing.{quiet, short, serves_at, distinct_sym, answered_quietly}
@@ -84,6 +84,6 @@ returns-in-Ok-allocate g c =
     let none = none_bound (lookup (nat_eq c.args.key) s.bound) c.contains_key.result c.contains_key.ensures c.if-contains_key.false in
     let describes = subst (λ d. Describes (described (V.properties d) c.args.wanted) c.args.name.now c.in-Ok.desc) c.device.ensures.lent c.in-Ok.ensures in
     let is = bound_after s.bound c.reserve.new.self.entries new.bound c.args.key (Some c.in-Ok-allocate.allocation) c.reserve.ensures.entries.2 c.bind.ensures in
-    subst (λ x. IsAnswered V (Under c.args.key (Alloc c.args.wanted c.args.name.now)) (reply_of c.allocated-given.result) x new) c.self.view_is
+    subst (λ x. IsAnswered V (Under c.args.key (Alloc c.args.wanted c.args.name.now)) (replies.Allocated (shown_of c.told-given.result)) x new) c.self.view_is
     (allocated V g.met.D.MetalDevice.refused_is s new c.args.key c.args.wanted c.args.name.now c.in-Ok.desc describes c.device.ensures.constant none
-    (c.allocate.ensures.constant.0, c.allocate.ensures.constant.1) c.in-Ok-allocate.allocation (reply_of c.allocated-given.result) is c.in-Ok-allocate.ensures.step c.allocated-given.ensures)
+    (c.allocate.ensures.constant.0, c.allocate.ensures.constant.1) c.in-Ok-allocate.allocation (replies.Allocated (shown_of c.told-given.result)) is c.in-Ok-allocate.ensures.step (ap replies.Allocated c.told-given.ensures))

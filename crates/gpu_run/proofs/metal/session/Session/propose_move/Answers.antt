@@ -11,7 +11,7 @@ use Rattle.gpu_run.specs.Bindings.{bindings_of}
 use Rattle.gpu_run.proofs.Binding.{some_bound, none_bound, same_bindings, bound_after}
 use Rattle.gpu_run.proofs.Owning.{own_bound}
 use Rattle.gpu_run.specs.MetalReply as replies
-use Rattle.gpu_run.specs.MetalReply.{reply_of}
+use Rattle.gpu_run.specs.Shown.{shown_of}
 use Rattle.gpu_run.specs.MetalCommand.{Move, Under}
 use Rattle.gpu_run.specs.MetalSession.{ServesMove}
 use Rattle.gpu_run.specs.MetalServed.{SessionValue, session_of, IsAnswered}
@@ -106,7 +106,7 @@ returns-in-Ok-Some g c =
     let to = c.in-Ok-Some.second in
     let step : IsMoveStep V c.in-Some.from.now c.args.desc.now (Ok (Some to)) s.allocator new.allocator = rw c.in-Ok-Some.field-0-is at c.in-Ok-Some.ensures.step in
     let bound = bound_after s.bound c.reserve.new.self.entries new.bound c.args.to (Some to) c.reserve.ensures.entries.2 c.bind.ensures in
-    λ is name asks. subst (λ x. IsAnswered V (Under c.args.key (Move c.args.to is name)) (reply_of c.allocated-given.result) x new) c.self.view_is
+    λ is name asks. subst (λ x. IsAnswered V (Under c.args.key (Move c.args.to is name)) (replies.Allocated (shown_of c.told-given.result)) x new) c.self.view_is
     (placed V g.met.D.MetalDevice.refused_is s new c.args.key c.args.to is name c.args.desc.now asks c.in-Some.from.now found none
     (ap (λ (t : State g.row.D.Denot). t.first) others, ap (λ (t : State g.row.D.Denot). t.setup) others)
-    to (reply_of c.allocated-given.result) bound step c.allocated-given.ensures)
+    to (replies.Allocated (shown_of c.told-given.result)) bound step (ap replies.Allocated c.told-given.ensures))
