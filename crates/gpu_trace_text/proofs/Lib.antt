@@ -12,6 +12,8 @@ pub mod Captured
 pub mod MetalCaptured
 pub mod D3D12Captured
 pub mod CapturedTrace
+pub mod CapturedRun
+pub mod CapturedRuns
 pub mod CapturedCalls
 pub mod MetalCalls
 pub mod D3D12Created

@@ -3,7 +3,9 @@ use Rattle.std.proofs.Common.{◌≡◌, refl, sym, ap, ◌∙◌, subst, Bool, 
 use Rattle.std.specs.Prelude.{codes}
 use Rattle.std.specs.Fmt.{decimal}
 use Rattle.std.proofs.lemmas.Fmt.{decimal_injective}
+use Rattle.std.specs.Int.{IsInRange}
 use Rattle.std.specs.Str.{IsAscii, bytes_eq}
+use Rattle.std.proofs.lemmas.List.Elements.{All-nil}
 use Rattle.gpu_capture.specs.declared.capture.CaptureEnd.{CaptureEnd}
 use Rattle.gpu_capture.specs.declared.capture.CaptureEnd.TheVariants.{Whole, TooLong, HostOutOfMemory}
 use Rattle.gpu_capture.specs.CaptureState.{last_line}
@@ -27,13 +29,14 @@ use Rattle.gpu_trace_text.specs.declared.dialect.Line.TheVariants as lines
 use Rattle.gpu_trace_text.proofs.CapturedWords.{ascii, budget-one, clean_budget, clean_text, clean_words, other}
 
 -- what a line's first word tells: that a capture's command of any API begins, one of one API alone, or a setting, that configuration or trace
--- end, that it is a remark, or none of these
+-- end, that it is a remark or empty, the sort of traces, or none of these
 pub data Kind : Type 0 where
   asks : Kind
   owns : Kind
   sets : Kind
   ends : Kind
   remarks : Kind
+  sorts : Kind
   tells : Kind
 
 abbrev pub choose : Bool → Kind → Kind → Kind
@@ -61,7 +64,10 @@ kind_of w =
     (choose (bytes_eq w (codes "create")) owns
     (choose (bytes_eq w (codes "new")) ends
     (choose (bytes_eq w (codes "destroy")) ends
-    (choose (bytes_eq w (codes "#")) remarks tells)))))))))))))))))))
+    (choose (bytes_eq w (codes "#")) remarks
+    (choose (bytes_eq w (codes "")) remarks
+    (choose (bytes_eq w (codes "metal")) sorts
+    (choose (bytes_eq w (codes "d3d12")) sorts tells))))))))))))))))))))))
 
 abbrev pub kinds : List (List ℕ) → Kind
 kinds [] = tells
@@ -266,14 +272,31 @@ module _ {S R A O : Type 0} (w : Words S R A O) where
   destroy_reads rest = begins (λ l. l ≡ lines.Destroy) (codes "destroy") [] rest (clean_text (codes "destroy") refl, tt) tt destroy_closes
 
   -- ---- a remark
-  remark_closes : (line : List ℕ) (ws : List (List ℕ)) → words_of line ≡ codes "#" ∷ ws → IsBlank line → (l : Said) → Means line l → l ≡ lines.Blank
-  remark_closes line ws is blank lines.Blank m = refl
-  remark_closes line ws is blank lines.Bad m = absurd (m.gives blank)
-  remark_closes line ws is blank (lines.Configures s) m = let e : remarks ≡ sets = sym (ap kinds is) ∙ (ap kinds m.reads.is ∙ w.setting_kind s) in cc
-  remark_closes line ws is blank (lines.Asks c) m = absurd (subst IsCommand (ap kinds (sym m.reads.says.is) ∙ ap kinds is) (command_kind c))
-  remark_closes line ws is blank (lines.Other o) m = let e : remarks ≡ tells = sym (ap kinds is) ∙ (ap kinds m.reads.is ∙ w.look_kind o) in cc
-  remark_closes line ws is blank lines.New m = let e : remarks ≡ ends = sym (ap kinds is) ∙ ap kinds m.reads in cc
-  remark_closes line ws is blank lines.Destroy m = let e : remarks ≡ ends = sym (ap kinds is) ∙ ap kinds m.reads in cc
+  blank_closes : (line : List ℕ) → kinds (words_of line) ≡ remarks → IsBlank line → (l : Said) → Means line l → l ≡ lines.Blank
+  blank_closes line is blank lines.Blank m = refl
+  blank_closes line is blank lines.Bad m = absurd (m.gives blank)
+  blank_closes line is blank (lines.Configures s) m = let e : remarks ≡ sets = sym is ∙ (ap kinds m.reads.is ∙ w.setting_kind s) in cc
+  blank_closes line is blank (lines.Asks c) m = absurd (subst IsCommand (ap kinds (sym m.reads.says.is) ∙ is) (command_kind c))
+  blank_closes line is blank (lines.Other o) m = let e : remarks ≡ tells = sym is ∙ (ap kinds m.reads.is ∙ w.look_kind o) in cc
+  blank_closes line is blank lines.New m = let e : remarks ≡ ends = sym is ∙ ap kinds m.reads in cc
+  blank_closes line is blank lines.Destroy m = let e : remarks ≡ ends = sym is ∙ ap kinds m.reads in cc
+
+  -- an empty line
+  pub empty_line : (l : Said) → Means [] l → l ≡ lines.Blank
+  empty_line l m = blank_closes [] refl (record { ascii = ascii [] (All-nil (IsInRange 32 126)); remark = tt }) l m
+
+  -- the line that tells the sort of traces says nothing in another sort
+  pub sort_line : (line : List ℕ) → kinds (words_of line) ≡ sorts → (IsRemark line → ⊥) → Means line lines.Bad
+  sort_line line is plain = record {
+    gives = λ blank. plain blank.remark;
+    says = λ a. record {
+      setting = λ s r. let e : sorts ≡ sets = sym is ∙ (ap kinds r.is ∙ w.setting_kind s) in cc;
+      command = λ c r. subst IsCommand (ap kinds (sym r.is) ∙ is) (command_kind c);
+      other = λ o r. let e : sorts ≡ tells = sym is ∙ (ap kinds r.is ∙ w.look_kind o) in cc;
+      new = λ r. let e : sorts ≡ ends = sym is ∙ ap kinds r in cc;
+      destroy = λ r. let e : sorts ≡ ends = sym is ∙ ap kinds r in cc;
+    };
+  }
 
   begins_remark : (ws : List (List ℕ)) → IsRemark (joined (codes "#" ∷ ws))
   begins_remark [] = refl
@@ -285,7 +308,7 @@ module _ {S R A O : Type 0} (w : Words S R A O) where
       let blank : IsBlank line = record { ascii = ascii line (joined-printed (codes "#" ∷ ws) clean); remark = begins_remark ws } in record {
         line = line;
         split = ap lines_of (sym (append-nil (line_of (codes "#" ∷ ws)))) ∙ lines-first (codes "#" ∷ ws) [] clean;
-        reads = λ l m. remark_closes line ws (words-joined (codes "#") ws clean) blank l m;
+        reads = λ l m. blank_closes line (ap kinds (words-joined (codes "#") ws clean)) blank l m;
       }
 
   -- what ends a capture early

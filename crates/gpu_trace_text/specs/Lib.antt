@@ -32,6 +32,7 @@ pub mod Captured
 pub mod MetalCaptured
 pub mod D3D12Captured
 pub mod CapturedTrace
+pub mod CapturedRun
 pub mod CapturedCalls
 pub mod MetalCalls
 pub mod D3D12Calls

@@ -1,6 +1,6 @@
 //! Laws of captures, each the contract of a function that does nothing: what a capture wrote reads back.
 
-ghost use Rattle.std.specs.Prelude.{◌≡◌, ◌≢◌, ℕ, ◌<◌, ◌^◌, ◌++◌, ◌∷◌, List, [], All, Bool};
+ghost use Rattle.std.specs.Prelude.{◌≡◌, ◌≢◌, ℕ, ◌<◌, ◌^◌, ◌++◌, ◌∷◌, List, None, Option, [], All, Bool};
 ghost use Rattle.gpu_capture.specs.declared.request.Request.TheVariants.{Vulkan};
 ghost use Rattle.gpu_capture.specs.Line.{line_of, name_word};
 ghost use Rattle.gpu_capture.specs.Words.{rename_words};
@@ -15,7 +15,15 @@ ghost use Rattle.gpu_trace_text.specs.Captured.{BeginsWith, FitsCaptured, IsRequ
 ghost use Rattle.gpu_trace_text.specs.Line.{Means};
 ghost use Rattle.gpu_trace_text.specs.Setting.{words as setting_words, SettingFits as FitsSetting};
 ghost use Rattle.gpu_trace_text.specs.CapturedCalls.{FitsCall, IsCall, refuse_setting, device_settings};
-ghost use Rattle.gpu_trace_text.specs.CapturedTrace.{Remarks, ReadsAs, ReadsUpTo, last_part, parts_of};
+ghost use Rattle.gpu_block_session.specs.Run.{Answers};
+ghost use Rattle.gpu_trace_text.specs.Any as any;
+ghost use Rattle.gpu_trace_text.specs.CapturedRun.{HasServed};
+ghost use Rattle.gpu_trace_text.specs.Reply.{reply_line};
+ghost use Rattle.gpu_trace_text.specs.Stage.{Does};
+ghost use Rattle.gpu_trace_text.specs.declared.device.setting.Setting.{Setting};
+ghost use Rattle.gpu_trace_text.specs.declared.any.AnyTrace.TheVariants as traces;
+ghost use Rattle.gpu_trace_text.specs.declared.stage.Stage.TheVariants as stages;
+ghost use Rattle.gpu_trace_text.specs.CapturedTrace.{Part, Remarks, ReadsAs, ReadsUpTo, last_part, parts_of};
 
 use std::alloc::Global;
 
@@ -55,4 +63,14 @@ pub fn ended_trace_reads_back(alloc: Global)
         → All FitsSetting (device_settings device sizes) → All FitsCall calls
         → ReadsUpTo Means IsCall (λ written. parts_of refuse_setting
         (device_settings device sizes) questions written (Remarks ∷ [])) calls (text done is_destroyed) }
+{}
+
+/// A run of a trace that is read so, where no line of it is bad, serves just these parts, one after another: a session over a device with these
+/// settings, which refuses just these questions, is asked for these calls.
+#[tactic(auto, using(crate::proofs::CapturedRuns::vulkan_runs))]
+pub fn trace_runs_again()
+    ensures { (parts : List (Part Setting)) (text : List ℕ) (old new : Option (List ℕ))
+        → ReadsAs Means IsCall parts text
+        → Answers any.Does any.reply_line (traces.Vulkan stages.Before) text old new None
+        → HasServed Means IsCall Does reply_line stages.Before parts old new }
 {}

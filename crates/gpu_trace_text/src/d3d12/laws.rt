@@ -1,6 +1,6 @@
 //! Laws of captures of DirectX 12, each the contract of a function that does nothing: what a capture wrote reads back.
 
-ghost use Rattle.std.specs.Prelude.{◌≡◌, ◌≢◌, ℕ, ◌<◌, ◌^◌, ◌++◌, ◌∷◌, List, [], All, Bool};
+ghost use Rattle.std.specs.Prelude.{◌≡◌, ◌≢◌, ℕ, ◌<◌, ◌^◌, ◌++◌, ◌∷◌, List, None, Option, [], All, Bool};
 ghost use Rattle.gpu_device.specs.declared.d3d12.types.ResourceHeapTier.{ResourceHeapTier};
 ghost use Rattle.gpu_capture.specs.declared.request.Request.TheVariants as requests;
 ghost use Rattle.gpu_capture.specs.declared.request.D3D12Request.{D3D12Request};
@@ -23,7 +23,17 @@ ghost use Rattle.gpu_trace_text.specs.D3D12Setting.{words as setting_words, Sett
 ghost use Rattle.gpu_trace_text.specs.declared.dialect.Line.TheVariants as lines;
 ghost use Rattle.gpu_trace_text.specs.Any.{d3d12_line};
 ghost use Rattle.gpu_trace_text.specs.D3D12Calls.{FitsCall, IsCall, IsCreate, refuse_setting, device_settings};
-ghost use Rattle.gpu_trace_text.specs.CapturedTrace.{Remarks, IsOfSort, ReadsAs, ReadsUpTo, last_part, parts_of};
+ghost use Rattle.gpu_block_session.specs.Run.{Answers};
+ghost use Rattle.gpu_trace_text.specs.Any as any;
+ghost use Rattle.gpu_trace_text.specs.CapturedRun.{HasServed};
+ghost use Rattle.gpu_trace_text.specs.D3D12Configuration.{nothing_configured};
+ghost use Rattle.gpu_trace_text.specs.D3D12Reply.{reply_line};
+ghost use Rattle.gpu_trace_text.specs.D3D12Stage.{Does};
+ghost use Rattle.gpu_trace_text.specs.declared.d3d12.setting.Setting.{Setting};
+ghost use Rattle.gpu_trace_text.specs.declared.any.AnyTrace.TheVariants as traces;
+ghost use Rattle.gpu_trace_text.specs.declared.d3d12.stage.Stage.TheVariants as stages;
+ghost use Rattle.gpu_trace_text.specs.declared.stage.Stage.TheVariants as vulkan_stages;
+ghost use Rattle.gpu_trace_text.specs.CapturedTrace.{Part, Remarks, IsOfSort, ReadsAs, ReadsUpTo, last_part, parts_of};
 
 use std::alloc::Global;
 
@@ -77,4 +87,13 @@ pub fn ended_trace_reads_back(alloc: Global)
         → All FitsSetting (device_settings tier sizes) → All FitsCall calls
         → IsOfSort d3d12_line (ReadsUpTo Means IsCall (λ written. parts_of refuse_setting
         (device_settings tier sizes) questions written (Remarks ∷ [])) calls) (text done is_destroyed) }
+{}
+
+/// A run of a trace that is read so, where no line of it is bad, serves just these parts, one after another: a session over a device with these
+/// settings, which refuses just these questions, is asked for these calls.
+pub fn trace_runs_again()
+    ensures { (parts : List (Part Setting)) (text : List ℕ) (old new : Option (List ℕ))
+        → IsOfSort d3d12_line (ReadsAs Means IsCall parts) text
+        → Answers any.Does any.reply_line (traces.Vulkan vulkan_stages.Before) text old new None
+        → HasServed Means IsCall Does reply_line (stages.Configuring nothing_configured) parts old new }
 {}
