@@ -1,6 +1,6 @@
 //! What a command says in a trace, whatever the API.
 
-ghost use Rattle.std.specs.Prelude.{◌≡◌, ◌≢◌, ℕ, ◌∷◌, Option, IfOk, MatchOption, codes};
+ghost use Rattle.std.specs.Prelude.{◌≡◌, ◌≢◌, ℕ, [], ◌∷◌, Option, IfOk, MatchOption, codes};
 ghost use Rattle.gpu_block_session.specs.Words.{texts};
 ghost use Rattle.gpu_capture.specs.Words.{budget_word};
 ghost use Rattle.gpu_trace_text.specs.Command.{words as spelling, Shared, FitsBudget};
@@ -63,24 +63,15 @@ fn free<R: Spelled, O: Spelled>(arguments: &[&str]) -> Option<Command<R, O>>
     Some(Command::Free { key })
 }
 
-fn report<R: Spelled, O: Spelled>(arguments: &[&str]) -> Option<Command<R, O>>
-    ensures { Says (spelling R.spelling O.spelling) (Shared R.Fits)
-        (codes "report" ∷ texts arguments.now) result }
+/// What a word alone says, where none stands behind it.
+pub(crate) fn alone<T: Drop>(arguments: &[&str], said: T) -> Option<T>
+    ensures { MatchOption result (texts arguments.now ≢ [])
+        (λ t. (t ≡ said) × (texts arguments.now ≡ [])) }
 {
-    let [] = arguments else {
-        return None;
-    };
-    Some(Command::Report)
-}
-
-fn capacity<R: Spelled, O: Spelled>(arguments: &[&str]) -> Option<Command<R, O>>
-    ensures { Says (spelling R.spelling O.spelling) (Shared R.Fits)
-        (codes "capacity" ∷ texts arguments.now) result }
-{
-    let [] = arguments else {
-        return None;
-    };
-    Some(Command::Capacity)
+    match arguments {
+        [] => Some(said),
+        _ => None,
+    }
 }
 
 /// A budget: a number of bytes, or `none`.
@@ -124,8 +115,8 @@ fn shared<R: Spelled, O: Spelled>(
         "alloc" => alloc(global, arguments),
         "move" => second_place(global, arguments),
         "free" => Ok(free(arguments)),
-        "report" => Ok(report(arguments)),
-        "capacity" => Ok(capacity(arguments)),
+        "report" => Ok(alone(arguments, Command::Report)),
+        "capacity" => Ok(alone(arguments, Command::Capacity)),
         "budget" => Ok(budget(arguments)),
         _ => Ok(None),
     }

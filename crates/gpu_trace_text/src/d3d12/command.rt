@@ -5,6 +5,7 @@ ghost use Rattle.gpu_block_session.specs.Words.{texts};
 ghost use Rattle.gpu_trace_text.specs.D3D12Command.{words, OtherFits};
 ghost use Rattle.gpu_trace_text.specs.Spelled.{Says};
 
+use crate::command::alone;
 use crate::d3d12::resource::{category_of, wanted_of};
 use crate::device::ask::location_of;
 use crate::spelled::Spelled;
@@ -88,15 +89,6 @@ fn release(arguments: &[&str]) -> Option<Other>
     Some(Other::Release { key })
 }
 
-fn leaks(arguments: &[&str]) -> Option<Other>
-    ensures { Says words OtherFits (codes "leaks" ∷ texts arguments.now) result }
-{
-    let [] = arguments else {
-        return None;
-    };
-    Some(Other::Leaks)
-}
-
 fn committed(arguments: &[&str]) -> Option<Other>
     ensures { Says words OtherFits (codes "committed" ∷ texts arguments.now) result }
 {
@@ -122,7 +114,7 @@ impl Spelled for Other {
             "rename" => rename(alloc, arguments),
             "create" => create(alloc, arguments),
             "release" => Ok(release(arguments)),
-            "leaks" => Ok(leaks(arguments)),
+            "leaks" => Ok(alone(arguments, Other::Leaks)),
             "committed" => Ok(committed(arguments)),
             _ => Ok(None),
         }

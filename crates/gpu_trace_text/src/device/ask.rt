@@ -11,6 +11,7 @@ ghost use Rattle.gpu_capture.specs.Vulkan.{linear_word, scheme_word};
 ghost use Rattle.gpu_trace_text.specs.Ask.{request_words, words, FitsRequest, FitsScheme, IsLength, IsPayload, OtherFits};
 ghost use Rattle.gpu_trace_text.specs.Spelled.{Says};
 
+use crate::command::alone;
 use crate::hex;
 use crate::spelled::Spelled;
 use gpu_block_session::words::{name_of, number, small_number};
@@ -222,15 +223,6 @@ fn read(arguments: &[&str]) -> Option<Other>
     Some(Other::Read { key, at, size })
 }
 
-fn leaks(arguments: &[&str]) -> Option<Other>
-    ensures { Says words OtherFits (codes "leaks" ∷ texts arguments.now) result }
-{
-    let [] = arguments else {
-        return None;
-    };
-    Some(Other::Leaks)
-}
-
 impl Spelled for Other {
     ghost use Rattle.gpu_trace_text.specs.Ask.{words, OtherFits};
 
@@ -247,7 +239,7 @@ impl Spelled for Other {
             "rename" => rename(alloc, arguments),
             "write" => write(alloc, arguments),
             "read" => Ok(read(arguments)),
-            "leaks" => Ok(leaks(arguments)),
+            "leaks" => Ok(alone(arguments, Other::Leaks)),
             _ => Ok(None),
         }
     }

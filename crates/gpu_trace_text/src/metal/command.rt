@@ -9,6 +9,7 @@ ghost use Rattle.gpu_block_session.specs.Words.{texts};
 ghost use Rattle.gpu_trace_text.specs.MetalCommand.{mode_word, words, FitsMode, OtherFits};
 ghost use Rattle.gpu_trace_text.specs.Spelled.{Says};
 
+use crate::command::alone;
 use crate::device::ask::location_of;
 use crate::spelled::Spelled;
 use gpu_block_session::words::{name_of, number, small_number};
@@ -157,24 +158,6 @@ fn texture(alloc: Global, arguments: &[&str]) -> Result<Option<Other>, AllocErro
     Ok(Some(Other::Texture { key, texture, name }))
 }
 
-fn heaps(arguments: &[&str]) -> Option<Other>
-    ensures { Says words OtherFits (codes "heaps" ∷ texts arguments.now) result }
-{
-    let [] = arguments else {
-        return None;
-    };
-    Some(Other::Heaps)
-}
-
-fn commit(arguments: &[&str]) -> Option<Other>
-    ensures { Says words OtherFits (codes "commit" ∷ texts arguments.now) result }
-{
-    let [] = arguments else {
-        return None;
-    };
-    Some(Other::Commit)
-}
-
 impl Spelled for Other {
     ghost use Rattle.gpu_trace_text.specs.MetalCommand.{words, OtherFits};
 
@@ -190,8 +173,8 @@ impl Spelled for Other {
             "buffer" => buffer(alloc, arguments),
             "structure" => structure(alloc, arguments),
             "texture" => texture(alloc, arguments),
-            "heaps" => Ok(heaps(arguments)),
-            "commit" => Ok(commit(arguments)),
+            "heaps" => Ok(alone(arguments, Other::Heaps)),
+            "commit" => Ok(alone(arguments, Other::Commit)),
             _ => Ok(None),
         }
     }
