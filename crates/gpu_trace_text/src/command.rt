@@ -1,6 +1,7 @@
 //! What a command says in a trace, whatever the API.
 
-ghost use Rattle.std.specs.Prelude.{◌≡◌, ◌≢◌, ℕ, [], ◌∷◌, Option, IfOk, MatchOption, codes};
+ghost use Rattle.std.specs.Prelude.{◌≡◌, ◌≢◌, ℕ, ◌<◌, ◌^◌, [], ◌∷◌, Option, IfOk, MatchOption, codes};
+ghost use Rattle.std.specs.Fmt.{decimal};
 ghost use Rattle.gpu_block_session.specs.Words.{texts};
 ghost use Rattle.gpu_capture.specs.Words.{budget_word};
 ghost use Rattle.gpu_trace_text.specs.Command.{words as spelling, Shared, FitsBudget};
@@ -52,15 +53,15 @@ fn second_place<R: Spelled, O: Spelled>(
     Ok(Some(Command::Move { key, to, request }))
 }
 
-fn free<R: Spelled, O: Spelled>(arguments: &[&str]) -> Option<Command<R, O>>
-    ensures { Says (spelling R.spelling O.spelling) (Shared R.Fits) (codes "free" ∷ texts arguments.now)
-        result }
+/// The number that a line has behind its first word, where there is nothing else.
+pub(crate) fn only_number(arguments: &[&str]) -> Option<u64>
+    ensures { MatchOption result ((n : ℕ) → n < 2 ^ 64 → texts arguments.now ≢ decimal n ∷ [])
+        (λ n. texts arguments.now ≡ decimal n ∷ []) }
 {
-    let [key] = arguments else {
+    let [word] = arguments else {
         return None;
     };
-    let key = number(key)?;
-    Some(Command::Free { key })
+    number(word)
 }
 
 /// What a word alone says, where none stands behind it.
@@ -114,7 +115,10 @@ fn shared<R: Spelled, O: Spelled>(
     match *verb {
         "alloc" => alloc(global, arguments),
         "move" => second_place(global, arguments),
-        "free" => Ok(free(arguments)),
+        "free" => match only_number(arguments) {
+            Some(key) => Ok(Some(Command::Free { key })),
+            None => Ok(None),
+        },
         "report" => Ok(alone(arguments, Command::Report)),
         "capacity" => Ok(alone(arguments, Command::Capacity)),
         "budget" => Ok(budget(arguments)),

@@ -5,7 +5,7 @@ ghost use Rattle.gpu_block_session.specs.Words.{texts};
 ghost use Rattle.gpu_trace_text.specs.D3D12Command.{words, OtherFits};
 ghost use Rattle.gpu_trace_text.specs.Spelled.{Says};
 
-use crate::command::alone;
+use crate::command::{alone, only_number};
 use crate::d3d12::resource::{category_of, wanted_of};
 use crate::device::ask::location_of;
 use crate::spelled::Spelled;
@@ -79,26 +79,6 @@ fn create(alloc: Global, arguments: &[&str]) -> Result<Option<Other>, AllocError
     Ok(Some(Other::Create { key, wanted }))
 }
 
-fn release(arguments: &[&str]) -> Option<Other>
-    ensures { Says words OtherFits (codes "release" ∷ texts arguments.now) result }
-{
-    let [key] = arguments else {
-        return None;
-    };
-    let key = number(key)?;
-    Some(Other::Release { key })
-}
-
-fn committed(arguments: &[&str]) -> Option<Other>
-    ensures { Says words OtherFits (codes "committed" ∷ texts arguments.now) result }
-{
-    let [memory_type] = arguments else {
-        return None;
-    };
-    let memory_type = number(memory_type)?;
-    Some(Other::Committed { memory_type })
-}
-
 impl Spelled for Other {
     ghost use Rattle.gpu_trace_text.specs.D3D12Command.{words, OtherFits};
 
@@ -113,9 +93,15 @@ impl Spelled for Other {
         match *verb {
             "rename" => rename(alloc, arguments),
             "create" => create(alloc, arguments),
-            "release" => Ok(release(arguments)),
+            "release" => match only_number(arguments) {
+                Some(key) => Ok(Some(Other::Release { key })),
+                None => Ok(None),
+            },
             "leaks" => Ok(alone(arguments, Other::Leaks)),
-            "committed" => Ok(committed(arguments)),
+            "committed" => match only_number(arguments) {
+                Some(memory_type) => Ok(Some(Other::Committed { memory_type })),
+                None => Ok(None),
+            },
             _ => Ok(None),
         }
     }

@@ -11,7 +11,7 @@ ghost use Rattle.gpu_capture.specs.Vulkan.{linear_word, scheme_word};
 ghost use Rattle.gpu_trace_text.specs.Ask.{request_words, words, FitsRequest, FitsScheme, IsLength, IsPayload, OtherFits};
 ghost use Rattle.gpu_trace_text.specs.Spelled.{Says};
 
-use crate::command::alone;
+use crate::command::{alone, only_number};
 use crate::hex;
 use crate::spelled::Spelled;
 use gpu_block_session::words::{name_of, number, small_number};
@@ -130,16 +130,6 @@ impl Spelled for Request {
     }
 }
 
-fn null(arguments: &[&str]) -> Option<Other>
-    ensures { Says words OtherFits (codes "null" ∷ texts arguments.now) result }
-{
-    let [key] = arguments else {
-        return None;
-    };
-    let key = number(key)?;
-    Some(Other::Null { key })
-}
-
 fn rename(alloc: Global, arguments: &[&str]) -> Result<Option<Other>, AllocError>
     ensures { IfOk result (λ found. Says words OtherFits (codes "rename" ∷ texts arguments.now) found) }
 {
@@ -235,7 +225,10 @@ impl Spelled for Other {
             return Ok(None);
         };
         match *verb {
-            "null" => Ok(null(arguments)),
+            "null" => match only_number(arguments) {
+                Some(key) => Ok(Some(Other::Null { key })),
+                None => Ok(None),
+            },
             "rename" => rename(alloc, arguments),
             "write" => write(alloc, arguments),
             "read" => Ok(read(arguments)),
