@@ -512,7 +512,7 @@ impl Allocator {
     }
 }
 
-/// The size of a heap of the machine's, by its number.
+/// The size of a heap of the allocator's, by its number.
 fn size_of_heap(number: u64) -> u64 {
     let mut piece = HeapsPiece::default();
     piece.piece.block = number;

@@ -66,16 +66,16 @@ fn number_of(interface: &Interface) -> u64 {
     interface.as_raw() as usize as u64
 }
 
-/// A reference to a heap beside the machine's own.
+/// A reference to a heap beside the allocator's own.
 pub(super) fn heap_of(piece: &HeapsPiece) -> Interface {
     let heap = piece.piece.block as usize as *mut c_void;
-    // SAFETY: the number is a heap's, which the machine holds as long as a piece lies there.
+    // SAFETY: the number is a heap's, which the allocator holds as long as a piece lies there.
     unsafe { Interface::from_borrowed(heap) }.expect("a heap isn't null")
 }
 
-/// The machine's own reference to a heap, which it gives up.
+/// The allocator's own reference to a heap, which it gives up.
 fn heap_back(heap: u64) -> Option<Interface> {
-    // SAFETY: the number is a heap's whose reference the machine was given, and which it names no more.
+    // SAFETY: the number is a heap's whose reference the allocator was given, and which it names no more.
     unsafe { Interface::from_raw(heap as usize as *mut c_void) }
 }
 
@@ -106,7 +106,7 @@ impl AllocatorHandle {
         let mut progress = HeapsProgress::default();
         let request = raw_request(desc);
         let (name, length) = (desc.name.as_ptr(), desc.name.len());
-        // SAFETY: the handle is this machine's alone, the name's bytes are as many as is said, and all of it outlives the call.
+        // SAFETY: the handle is this allocator's alone, the name's bytes are as many as is said, and all of it outlives the call.
         check(unsafe { raw::pilhangko_raw_heaps_begin(self.handle.as_ptr(), &request, name, length, &mut progress) })?;
         match progress.kind {
             raw::PROGRESS_PIECE => Ok(Progress::Piece(progress.piece)),
@@ -114,10 +114,10 @@ impl AllocatorHandle {
         }
     }
 
-    /// The driver made this heap, whose reference is the machine's now. A question is open.
+    /// The driver made this heap, whose reference is the allocator's now. A question is open.
     pub(super) fn granted(&mut self, heap: Interface) -> HeapsPiece {
         let mut piece = HeapsPiece::default();
-        // SAFETY: the handle is this machine's alone.
+        // SAFETY: the handle is this allocator's alone.
         check_unrefused(unsafe {
             raw::pilhangko_raw_heaps_granted(self.handle.as_ptr(), number_of(&heap), &mut piece)
         });
@@ -128,7 +128,7 @@ impl AllocatorHandle {
     /// The driver made no heap, with this code, or gave null. A question is open.
     pub(super) fn refused(&mut self, code: Option<i32>) -> AllocationError {
         let mut progress = HeapsProgress::default();
-        // SAFETY: the handle is this machine's alone.
+        // SAFETY: the handle is this allocator's alone.
         check_unrefused(unsafe {
             raw::pilhangko_raw_heaps_refused(self.handle.as_ptr(), code.unwrap_or(0), &mut progress)
         });
@@ -142,7 +142,7 @@ impl AllocatorHandle {
     /// Frees a piece, and releases its heap where that goes with it.
     pub(super) fn free(&mut self, piece: &HeapsPiece) -> Result<()> {
         let mut back = raw::MemoryBlock::default();
-        // SAFETY: the handle is this machine's alone, and the piece outlives the call.
+        // SAFETY: the handle is this allocator's alone, and the piece outlives the call.
         check(unsafe { raw::pilhangko_raw_heaps_free(self.handle.as_ptr(), piece, &mut back) })?;
         if back.exists {
             drop(heap_back(back.block));
@@ -157,7 +157,7 @@ impl AllocatorHandle {
         desc: &AllocationCreateDesc<'_>,
     ) -> Result<Option<HeapsPiece>> {
         let (mut moves, mut to) = (false, HeapsPiece::default());
-        // SAFETY: the handle is this machine's alone, the name's bytes are as many as is said, and all of it outlives the call.
+        // SAFETY: the handle is this allocator's alone, the name's bytes are as many as is said, and all of it outlives the call.
         check(unsafe {
             raw::pilhangko_raw_heaps_propose_move(
                 self.handle.as_ptr(),
@@ -174,20 +174,20 @@ impl AllocatorHandle {
 
     /// Renames a live piece.
     pub(super) fn rename(&mut self, piece: &HeapsPiece, name: &str) -> Result<()> {
-        // SAFETY: the handle is this machine's alone, the name's bytes are as many as is said, and all of it outlives the call.
+        // SAFETY: the handle is this allocator's alone, the name's bytes are as many as is said, and all of it outlives the call.
         check(unsafe { raw::pilhangko_raw_heaps_rename(self.handle.as_ptr(), piece, name.as_ptr(), name.len()) })
     }
 
     /// Keeps a word with a live piece.
     pub(super) fn set_word(&mut self, piece: &HeapsPiece, word: u64) -> Result<()> {
-        // SAFETY: the handle is this machine's alone, and the piece outlives the call.
+        // SAFETY: the handle is this allocator's alone, and the piece outlives the call.
         check(unsafe { raw::pilhangko_raw_heaps_set_word(self.handle.as_ptr(), piece, word) })
     }
 
     /// Whether a piece is live.
     pub(super) fn is_live(&self, piece: &HeapsPiece) -> bool {
         let mut is_live = false;
-        // SAFETY: the handle is this machine's alone: it isn't `Sync`. The piece outlives the call.
+        // SAFETY: the handle is this allocator's alone: it isn't `Sync`. The piece outlives the call.
         check_unrefused(unsafe { raw::pilhangko_raw_heaps_is_live(self.handle.as_ptr(), piece, &mut is_live) });
         is_live
     }
@@ -200,14 +200,14 @@ impl AllocatorHandle {
         category: ResourceCategory,
     ) -> Result<()> {
         let (location, category) = (location_number(location), category_number(category));
-        // SAFETY: the handle is this machine's alone.
+        // SAFETY: the handle is this allocator's alone.
         check(unsafe { raw::pilhangko_raw_heaps_begin_committed(self.handle.as_ptr(), size, location, category) })
     }
 
     /// The driver made it.
     pub(super) fn made(&mut self, resource: &Interface) -> HeapsCommitted {
         let mut committed = HeapsCommitted::default();
-        // SAFETY: the handle is this machine's alone.
+        // SAFETY: the handle is this allocator's alone.
         check_unrefused(unsafe {
             raw::pilhangko_raw_heaps_made(self.handle.as_ptr(), number_of(resource), &mut committed)
         });
@@ -216,13 +216,13 @@ impl AllocatorHandle {
 
     /// The driver didn't make it.
     pub(super) fn not_made(&mut self) {
-        // SAFETY: the handle is this machine's alone.
+        // SAFETY: the handle is this allocator's alone.
         check_unrefused(unsafe { raw::pilhangko_raw_heaps_not_made(self.handle.as_ptr()) });
     }
 
     /// Forgets a committed resource.
     pub(super) fn forget(&mut self, committed: &HeapsCommitted) -> Result<()> {
-        // SAFETY: the handle is this machine's alone, and the record outlives the call.
+        // SAFETY: the handle is this allocator's alone, and the record outlives the call.
         check(unsafe { raw::pilhangko_raw_heaps_forget_committed(self.handle.as_ptr(), committed) })
     }
 
@@ -230,7 +230,7 @@ impl AllocatorHandle {
     pub(super) fn set_budget(&mut self, memory_type: usize, budget: Option<u64>) -> Result<()> {
         let bytes = budget.unwrap_or(0);
         self.changes += 1;
-        // SAFETY: the handle is this machine's alone.
+        // SAFETY: the handle is this allocator's alone.
         check(unsafe {
             raw::pilhangko_raw_heaps_set_budget(self.handle.as_ptr(), memory_type, budget.is_some(), bytes)
         })
@@ -242,7 +242,7 @@ impl AllocatorHandle {
     /// The budget of a memory type, if it has one.
     pub(super) fn budget(&self, memory_type: usize) -> Option<u64> {
         let mut budget = raw::Budget::default();
-        // SAFETY: the handle is this machine's alone: it isn't `Sync`.
+        // SAFETY: the handle is this allocator's alone: it isn't `Sync`.
         check_unrefused(unsafe { raw::pilhangko_raw_heaps_budget(self.handle.as_ptr(), memory_type, &mut budget) });
         budget.exists.then_some(budget.bytes)
     }
@@ -250,7 +250,7 @@ impl AllocatorHandle {
     /// The sum of the sizes of the heaps in bytes.
     pub(super) fn capacity(&self) -> u64 {
         let mut bytes = 0;
-        // SAFETY: the handle is this machine's alone: it isn't `Sync`.
+        // SAFETY: the handle is this allocator's alone: it isn't `Sync`.
         check_unrefused(unsafe { raw::pilhangko_raw_heaps_capacity(self.handle.as_ptr(), &mut bytes) });
         bytes
     }
@@ -258,7 +258,7 @@ impl AllocatorHandle {
     /// What is counted of a memory type's committed resources, if it is there.
     pub(super) fn committed(&self, memory_type: usize) -> Option<HeapsCommittedStatistics> {
         let mut s = HeapsCommittedStatistics::default();
-        // SAFETY: the handle is this machine's alone: it isn't `Sync`.
+        // SAFETY: the handle is this allocator's alone: it isn't `Sync`.
         check(unsafe { raw::pilhangko_raw_heaps_committed_of(self.handle.as_ptr(), memory_type, &mut s) }).ok()?;
         Some(s)
     }
@@ -266,7 +266,7 @@ impl AllocatorHandle {
     /// What is counted of a memory type, if it is there.
     pub(super) fn type_statistics(&self, memory_type: usize) -> Option<TypeStatistics> {
         let mut s = raw::TypeStatistics::default();
-        // SAFETY: the handle is this machine's alone: it isn't `Sync`.
+        // SAFETY: the handle is this allocator's alone: it isn't `Sync`.
         check(unsafe { raw::pilhangko_raw_heaps_type_statistics(self.handle.as_ptr(), memory_type, &mut s) }).ok()?;
         Some(TypeStatistics::counted(&s))
     }
@@ -287,7 +287,7 @@ impl AllocatorHandle {
     /// The report as JSON.
     pub(super) fn report_json(&self) -> Result<String> {
         copied_text(|text, room, length| {
-            // SAFETY: the handle is this machine's alone: it isn't `Sync`. There is room for as many bytes as is said.
+            // SAFETY: the handle is this allocator's alone: it isn't `Sync`. There is room for as many bytes as is said.
             unsafe { raw::pilhangko_raw_heaps_report(self.handle.as_ptr(), text, room, length) }
         })
     }
@@ -313,7 +313,7 @@ impl BlockAt<'_> {
     /// The number of its heap, if there is one.
     fn heap(&self) -> Option<u64> {
         let mut block = raw::MemoryBlock::default();
-        // SAFETY: the handle is the machine's alone: it isn't `Sync`.
+        // SAFETY: the handle is the allocator's alone: it isn't `Sync`.
         check_unrefused(unsafe {
             raw::pilhangko_raw_heaps_block(self.machine.handle.as_ptr(), self.memory_type, self.slot, &mut block)
         });
@@ -324,7 +324,7 @@ impl BlockAt<'_> {
     pub(super) fn statistics(&self) -> Option<BlockStatistics> {
         let mut s = raw::MemoryBlockStatistics::default();
         let handle = self.machine.handle.as_ptr();
-        // SAFETY: the handle is the machine's alone: it isn't `Sync`.
+        // SAFETY: the handle is the allocator's alone: it isn't `Sync`.
         check_unrefused(unsafe {
             raw::pilhangko_raw_heaps_block_statistics(handle, self.memory_type, self.slot, &mut s)
         });
@@ -340,7 +340,7 @@ impl Visited for BlockAt<'_> {
     fn show(&self, views: &mut [raw::PieceView]) -> (u32, usize) {
         let (handle, mut shown) = (self.machine.handle.as_ptr(), 0);
         let (first, room) = (views.as_mut_ptr(), views.len());
-        // SAFETY: the handle is the machine's alone: it isn't `Sync`. There is room for as many views as is said.
+        // SAFETY: the handle is the allocator's alone: it isn't `Sync`. There is room for as many views as is said.
         let status =
             unsafe { raw::pilhangko_raw_heaps_pieces(handle, self.memory_type, self.slot, 0, first, room, &mut shown) };
         (status, shown)
@@ -348,7 +348,7 @@ impl Visited for BlockAt<'_> {
 
     fn show_names(&self, lengths: &mut [usize], names: &mut [u8]) -> (u32, usize) {
         let mut shown = 0;
-        // SAFETY: the handle is the machine's alone: it isn't `Sync`. There is room for as many lengths and bytes as is said.
+        // SAFETY: the handle is the allocator's alone: it isn't `Sync`. There is room for as many lengths and bytes as is said.
         let status = unsafe {
             raw::pilhangko_raw_heaps_piece_names(
                 self.machine.handle.as_ptr(),
@@ -369,7 +369,7 @@ impl Visited for BlockAt<'_> {
 impl Drop for AllocatorHandle {
     fn drop(&mut self) {
         self.blocks().for_each(|(heap, _)| drop(heap_back(heap)));
-        // SAFETY: the handle is this machine's alone, and isn't used again.
+        // SAFETY: the handle is this allocator's alone, and isn't used again.
         unsafe { raw::pilhangko_raw_heaps_destroy(self.handle.as_ptr()) };
     }
 }

@@ -123,7 +123,7 @@ impl Allocator {
         Ok(allocator)
     }
 
-    /// The pool over a machine that was made for it.
+    /// The pool over a handle that was made for it.
     pub(super) fn apart(&self, desc: &PoolCreateDesc, machine: AllocatorHandle) -> Result<Self> {
         let capture = desc.capture.then(|| Capture::of_allocator(self.device(), &desc.allocation_sizes)).transpose()?;
         Ok(Allocator {

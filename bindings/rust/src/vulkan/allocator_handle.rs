@@ -137,7 +137,7 @@ impl AllocatorHandle {
         preference: &raw::Preference,
     ) -> Result<Progress> {
         let mut progress = AllocatorProgress::default();
-        // SAFETY: the handle is this machine's alone, the name's bytes are as many as is said, and all of it outlives the call.
+        // SAFETY: the handle is this allocator's alone, the name's bytes are as many as is said, and all of it outlives the call.
         check(unsafe {
             raw::pilhangko_raw_allocator_begin_by_flags(
                 self.handle.as_ptr(),
@@ -154,7 +154,7 @@ impl AllocatorHandle {
     /// Begins a request. A question that it leads to has to be answered before the next request.
     pub(super) fn begin(&mut self, desc: &AllocationCreateDesc<'_>) -> Result<Progress> {
         let mut progress = AllocatorProgress::default();
-        // SAFETY: the handle is this machine's alone, the name's bytes are as many as is said, and all of it outlives the call.
+        // SAFETY: the handle is this allocator's alone, the name's bytes are as many as is said, and all of it outlives the call.
         check(unsafe {
             raw::pilhangko_raw_allocator_begin(
                 self.handle.as_ptr(),
@@ -169,7 +169,7 @@ impl AllocatorHandle {
 
     /// Bounds how many blocks there may be, or takes the bound away.
     pub(super) fn set_most_blocks(&mut self, most: Option<usize>) {
-        // SAFETY: the handle is this machine's alone.
+        // SAFETY: the handle is this allocator's alone.
         check_unrefused(unsafe {
             raw::pilhangko_raw_allocator_set_most_blocks(self.handle.as_ptr(), most.is_some(), most.unwrap_or(0))
         });
@@ -177,7 +177,7 @@ impl AllocatorHandle {
 
     /// Says whether blocks are smaller where memory is short.
     pub(super) fn set_smaller_blocks(&mut self, smaller: bool) {
-        // SAFETY: the handle is this machine's alone.
+        // SAFETY: the handle is this allocator's alone.
         check_unrefused(unsafe { raw::pilhangko_raw_allocator_set_smaller_blocks(self.handle.as_ptr(), smaller) });
     }
 
@@ -190,7 +190,7 @@ impl AllocatorHandle {
     pub(super) fn granted(&mut self, memory: Memory, common: &mut Common) -> AllocatorPiece {
         let mut piece = AllocatorPiece::default();
         let address = memory.address.map_or(0, Address::number);
-        // SAFETY: the handle is this machine's alone.
+        // SAFETY: the handle is this allocator's alone.
         check_unrefused(unsafe {
             raw::pilhangko_raw_allocator_granted(self.handle.as_ptr(), memory.handle.0, address, &mut piece)
         });
@@ -202,7 +202,7 @@ impl AllocatorHandle {
     /// The driver refused the memory, with this code. A question is open.
     pub(super) fn refused(&mut self, code: i32) -> Progress {
         let mut progress = AllocatorProgress::default();
-        // SAFETY: the handle is this machine's alone.
+        // SAFETY: the handle is this allocator's alone.
         check_unrefused(unsafe { raw::pilhangko_raw_allocator_refused(self.handle.as_ptr(), code, &mut progress) });
         Progress::from_raw(&progress)
     }
@@ -210,7 +210,7 @@ impl AllocatorHandle {
     /// The driver granted the memory, but refused to map it, and the memory has gone back. A question is open.
     pub(super) fn mapping_refused(&mut self, code: Option<i32>) -> Progress {
         let mut progress = AllocatorProgress::default();
-        // SAFETY: the handle is this machine's alone.
+        // SAFETY: the handle is this allocator's alone.
         check_unrefused(unsafe {
             raw::pilhangko_raw_allocator_mapping_refused(
                 self.handle.as_ptr(),
@@ -226,7 +226,7 @@ impl AllocatorHandle {
     pub(super) fn free(&mut self, piece: &AllocatorPiece) -> Result<()> {
         let (common, mut back) = (self.share.common(), raw::AllocatorMemory::default());
         let mut common = lock(&common);
-        // SAFETY: the handle is this machine's alone, and the piece outlives the call.
+        // SAFETY: the handle is this allocator's alone, and the piece outlives the call.
         check(unsafe { raw::pilhangko_raw_allocator_free(self.handle.as_ptr(), piece, &mut back) })?;
         if back.exists {
             self.device.give_back(memory_of(back.memory, back.address));
@@ -243,7 +243,7 @@ impl AllocatorHandle {
         desc: &AllocationCreateDesc<'_>,
     ) -> Result<Option<AllocatorPiece>> {
         let (mut moves, mut to) = (false, AllocatorPiece::default());
-        // SAFETY: the handle is this machine's alone, the name's bytes are as many as is said, and all of it outlives the call.
+        // SAFETY: the handle is this allocator's alone, the name's bytes are as many as is said, and all of it outlives the call.
         check(unsafe {
             raw::pilhangko_raw_allocator_propose_move(
                 self.handle.as_ptr(),
@@ -260,20 +260,20 @@ impl AllocatorHandle {
 
     /// Renames a live piece.
     pub(super) fn rename(&mut self, piece: &AllocatorPiece, name: &str) -> Result<()> {
-        // SAFETY: the handle is this machine's alone, the name's bytes are as many as is said, and all of it outlives the call.
+        // SAFETY: the handle is this allocator's alone, the name's bytes are as many as is said, and all of it outlives the call.
         check(unsafe { raw::pilhangko_raw_allocator_rename(self.handle.as_ptr(), piece, name.as_ptr(), name.len()) })
     }
 
     /// Keeps a word with a live piece.
     pub(super) fn set_word(&mut self, piece: &AllocatorPiece, word: u64) -> Result<()> {
-        // SAFETY: the handle is this machine's alone, and the piece outlives the call.
+        // SAFETY: the handle is this allocator's alone, and the piece outlives the call.
         check(unsafe { raw::pilhangko_raw_allocator_set_word(self.handle.as_ptr(), piece, word) })
     }
 
     /// Whether a piece is live.
     pub(super) fn is_live(&self, piece: &AllocatorPiece) -> bool {
         let mut is_live = false;
-        // SAFETY: the handle is this machine's alone: it isn't `Sync`. The piece outlives the call.
+        // SAFETY: the handle is this allocator's alone: it isn't `Sync`. The piece outlives the call.
         check_unrefused(unsafe { raw::pilhangko_raw_allocator_is_live(self.handle.as_ptr(), piece, &mut is_live) });
         is_live
     }
@@ -282,7 +282,7 @@ impl AllocatorHandle {
     pub(super) fn set_budget(&mut self, memory_type: usize, budget: Option<u64>) -> Result<()> {
         let bytes = budget.unwrap_or(0);
         self.changes += 1;
-        // SAFETY: the handle is this machine's alone.
+        // SAFETY: the handle is this allocator's alone.
         check(unsafe {
             raw::pilhangko_raw_allocator_set_budget(self.handle.as_ptr(), memory_type, budget.is_some(), bytes)
         })
@@ -291,7 +291,7 @@ impl AllocatorHandle {
     /// The budget of a memory type, if it has one.
     pub(super) fn budget(&self, memory_type: usize) -> Option<u64> {
         let mut budget = raw::Budget::default();
-        // SAFETY: the handle is this machine's alone: it isn't `Sync`.
+        // SAFETY: the handle is this allocator's alone: it isn't `Sync`.
         check_unrefused(unsafe { raw::pilhangko_raw_allocator_budget(self.handle.as_ptr(), memory_type, &mut budget) });
         budget.exists.then_some(budget.bytes)
     }
@@ -299,7 +299,7 @@ impl AllocatorHandle {
     /// Limits the sum of the sizes of the blocks that lie in a heap in bytes, or takes the limit away; whether there is such a heap.
     pub(super) fn set_heap_limit(&mut self, heap: usize, limit: Option<u64>) -> bool {
         let bytes = limit.unwrap_or(0);
-        // SAFETY: the handle is this machine's alone.
+        // SAFETY: the handle is this allocator's alone.
         let status =
             unsafe { raw::pilhangko_raw_allocator_set_heap_limit(self.handle.as_ptr(), heap, limit.is_some(), bytes) };
         if status != raw::NO_SUCH_HEAP {
@@ -311,7 +311,7 @@ impl AllocatorHandle {
     /// The greatest sum that the blocks of a memory type may have now, if anything bounds it.
     pub(super) fn bound(&self, memory_type: usize) -> Option<u64> {
         let mut bound = raw::Budget::default();
-        // SAFETY: the handle is this machine's alone: it isn't `Sync`.
+        // SAFETY: the handle is this allocator's alone: it isn't `Sync`.
         check_unrefused(unsafe { raw::pilhangko_raw_allocator_bound(self.handle.as_ptr(), memory_type, &mut bound) });
         bound.exists.then_some(bound.bytes)
     }
@@ -319,7 +319,7 @@ impl AllocatorHandle {
     /// The sum of the sizes of the live blocks in bytes.
     pub(super) fn capacity(&self) -> u64 {
         let mut bytes = 0;
-        // SAFETY: the handle is this machine's alone: it isn't `Sync`.
+        // SAFETY: the handle is this allocator's alone: it isn't `Sync`.
         check_unrefused(unsafe { raw::pilhangko_raw_allocator_capacity(self.handle.as_ptr(), &mut bytes) });
         bytes
     }
@@ -331,7 +331,7 @@ impl Drop for AllocatorHandle {
         let mut common = lock(&common);
         self.blocks().for_each(|block| self.device.give_back(block.memory));
         self.share.tell(&mut common, 0, [0; 16]);
-        // SAFETY: the handle is this machine's alone, and isn't used again.
+        // SAFETY: the handle is this allocator's alone, and isn't used again.
         unsafe { raw::pilhangko_raw_allocator_destroy(self.handle.as_ptr()) };
     }
 }

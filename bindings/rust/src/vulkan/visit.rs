@@ -23,7 +23,7 @@ impl AllocatorHandle {
     /// The memory type at which a request with these bits begins.
     pub(super) fn best_type(&self, memory_type_bits: u32, location: MemoryLocation) -> Option<usize> {
         let (number, mut index) = (location_number(location), 0);
-        // SAFETY: the handle is this machine's alone: it isn't `Sync`.
+        // SAFETY: the handle is this allocator's alone: it isn't `Sync`.
         check(unsafe {
             raw::pilhangko_raw_allocator_best_type(self.handle.as_ptr(), memory_type_bits, number, &mut index)
         })
@@ -34,7 +34,7 @@ impl AllocatorHandle {
     /// The sum of the sizes of a memory type's blocks in bytes, if it is there.
     pub(super) fn type_capacity(&self, memory_type: usize) -> Option<u64> {
         let mut bytes = 0;
-        // SAFETY: the handle is this machine's alone: it isn't `Sync`.
+        // SAFETY: the handle is this allocator's alone: it isn't `Sync`.
         check(unsafe { raw::pilhangko_raw_allocator_type_capacity(self.handle.as_ptr(), memory_type, &mut bytes) })
             .ok()?;
         Some(bytes)
@@ -43,7 +43,7 @@ impl AllocatorHandle {
     /// What is counted of a memory type, if it is there.
     pub(super) fn type_statistics(&self, memory_type: usize) -> Option<TypeStatistics> {
         let mut s = raw::TypeStatistics::default();
-        // SAFETY: the handle is this machine's alone: it isn't `Sync`.
+        // SAFETY: the handle is this allocator's alone: it isn't `Sync`.
         check(unsafe { raw::pilhangko_raw_allocator_type_statistics(self.handle.as_ptr(), memory_type, &mut s) })
             .ok()?;
         Some(TypeStatistics::counted(&s))
@@ -59,7 +59,7 @@ impl AllocatorHandle {
     /// The block in a slot of a memory type, if there is one.
     pub(super) fn live_block(&self, memory_type: usize, slot: usize) -> Option<LiveBlock> {
         let mut block = raw::AllocatorBlock::default();
-        // SAFETY: the handle is this machine's alone: it isn't `Sync`.
+        // SAFETY: the handle is this allocator's alone: it isn't `Sync`.
         check_unrefused(unsafe {
             raw::pilhangko_raw_allocator_block(self.handle.as_ptr(), memory_type, slot, &mut block)
         });
@@ -75,7 +75,7 @@ impl AllocatorHandle {
     /// The report as JSON.
     pub(super) fn report_json(&self) -> Result<String> {
         copied_text(|text, room, length| {
-            // SAFETY: the handle is this machine's alone: it isn't `Sync`. There is room for as many bytes as is said.
+            // SAFETY: the handle is this allocator's alone: it isn't `Sync`. There is room for as many bytes as is said.
             unsafe { raw::pilhangko_raw_allocator_report(self.handle.as_ptr(), text, room, length) }
         })
     }
@@ -87,7 +87,7 @@ impl AllocatorHandle {
     pub(super) fn leak(&self, index: usize) -> String {
         let mut text = vec![0; 1 << 10];
         let mut length = 0;
-        // SAFETY: the handle is this machine's alone: it isn't `Sync`. There is room for as many bytes as is said.
+        // SAFETY: the handle is this allocator's alone: it isn't `Sync`. There is room for as many bytes as is said.
         check_unrefused(unsafe {
             raw::pilhangko_raw_allocator_leak(self.handle.as_ptr(), index, text.as_mut_ptr(), text.len(), &mut length)
         });
@@ -108,7 +108,7 @@ impl BlockAt<'_> {
     /// What is counted of the block, if there is one.
     pub(super) fn statistics(&self) -> Option<BlockStatistics> {
         let mut s = raw::MemoryBlockStatistics::default();
-        // SAFETY: the handle is the machine's alone: it isn't `Sync`.
+        // SAFETY: the handle is the allocator's alone: it isn't `Sync`.
         check_unrefused(unsafe {
             raw::pilhangko_raw_allocator_block_statistics(
                 self.machine.handle.as_ptr(),
@@ -128,7 +128,7 @@ impl Visited for BlockAt<'_> {
 
     fn show(&self, views: &mut [raw::PieceView]) -> (u32, usize) {
         let mut shown = 0;
-        // SAFETY: the handle is the machine's alone: it isn't `Sync`. There is room for as many views as is said.
+        // SAFETY: the handle is the allocator's alone: it isn't `Sync`. There is room for as many views as is said.
         let status = unsafe {
             raw::pilhangko_raw_allocator_pieces(
                 self.machine.handle.as_ptr(),
@@ -145,7 +145,7 @@ impl Visited for BlockAt<'_> {
 
     fn show_names(&self, lengths: &mut [usize], names: &mut [u8]) -> (u32, usize) {
         let mut shown = 0;
-        // SAFETY: the handle is the machine's alone: it isn't `Sync`. There is room for as many lengths and bytes as is said.
+        // SAFETY: the handle is the allocator's alone: it isn't `Sync`. There is room for as many lengths and bytes as is said.
         let status = unsafe {
             raw::pilhangko_raw_allocator_piece_names(
                 self.machine.handle.as_ptr(),
