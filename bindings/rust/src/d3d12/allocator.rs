@@ -147,7 +147,7 @@ pub struct CommittedAllocationStatistics {
 /// An allocator of a device's heaps. It may go from thread to thread, and serves one call at a time (`Mutex<Allocator>`). Dropping it releases
 /// its heaps and logs the allocations that are live still: these, and resources, hold their heaps as long as they live.
 pub struct Allocator {
-    pub(super) machine: AllocatorHandle,
+    pub(super) handle: AllocatorHandle,
     device: ID3D12DeviceVersion,
     owner: u64,
     /// The number of the allocation or committed resource that was made last.
@@ -163,7 +163,7 @@ impl Allocator {
     pub fn new(desc: &AllocatorCreateDesc) -> Result<Self> {
         let settings = raw_settings(desc.device.heap_tier()?, &desc.allocation_sizes);
         Ok(Allocator {
-            machine: AllocatorHandle::new(&settings)?,
+            handle: AllocatorHandle::new(&settings)?,
             device: desc.device.clone(),
             owner: next_owner(),
             last_number: 0,
@@ -194,15 +194,15 @@ impl Allocator {
 
     /// Begins a request, and asks the driver for the heap that it needs, if it needs one.
     fn place(&mut self, desc: &AllocationCreateDesc<'_>, answers: &mut Answers) -> Result<HeapsPiece> {
-        let question = match self.machine.begin(desc)? {
+        let question = match self.handle.begin(desc)? {
             Progress::Piece(piece) => return Ok(piece),
             Progress::Question(question) => question,
         };
         let made = self.device.create_heap(&question);
         answers.note_made(&made);
         match made {
-            Ok(heap) => Ok(self.machine.granted(heap)),
-            Err(code) => Err(self.machine.refused(code)),
+            Ok(heap) => Ok(self.handle.granted(heap)),
+            Err(code) => Err(self.handle.refused(code)),
         }
     }
 
@@ -227,7 +227,7 @@ impl Allocator {
 
     fn release(&mut self, allocation: &Allocation) -> Result<()> {
         self.owns(allocation.owner)?;
-        self.machine.free(&allocation.piece)?;
+        self.handle.free(&allocation.piece)?;
         if let Some(capture) = &mut self.capture {
             capture.freed(allocation.number);
         }
@@ -248,7 +248,7 @@ impl Allocator {
     ) -> Result<Option<Allocation>> {
         let own = copied(desc.name)?;
         self.owns(allocation.owner)?;
-        let piece = self.machine.propose_move(&allocation.piece, desc)?;
+        let piece = self.handle.propose_move(&allocation.piece, desc)?;
         self.record_moved(allocation.number, desc);
         let Some(piece) = piece else { return Ok(None) };
         let mut second = self.held(piece, own);
@@ -262,7 +262,7 @@ impl Allocator {
     pub fn rename_allocation(&mut self, allocation: &mut Allocation, name: &str) -> Result<()> {
         let own = copied(name)?;
         self.owns(allocation.owner)?;
-        self.machine.rename(&allocation.piece, name)?;
+        self.handle.rename(&allocation.piece, name)?;
         if let Some(capture) = &mut self.capture {
             capture.renamed(allocation.number, name);
         }
@@ -275,14 +275,14 @@ impl Allocator {
     /// The error, and then nothing changes: `Internal` where it isn't this allocator's.
     pub fn set_user_data(&mut self, allocation: &mut Allocation, user_data: u64) -> Result<()> {
         self.owns(allocation.owner)?;
-        self.machine.set_word(&allocation.piece, user_data)?;
+        self.handle.set_word(&allocation.piece, user_data)?;
         allocation.user_data = user_data;
         Ok(())
     }
 
     /// Whether an allocation is this allocator's and live.
     pub fn is_live(&self, allocation: &Allocation) -> bool {
-        self.owns(allocation.owner).is_ok() && self.machine.is_live(&allocation.piece)
+        self.owns(allocation.owner).is_ok() && self.handle.is_live(&allocation.piece)
     }
 
     /// Makes a resource: in a piece of a heap, or with memory of its own. What was made is undone where something fails.
@@ -358,16 +358,16 @@ impl Allocator {
         place: Place<'_>,
         answers: &mut Answers,
     ) -> Result<(Interface, HeapsCommitted)> {
-        self.machine.begin_committed(needs.size, needs.location, needs.resource_category)?;
+        self.handle.begin_committed(needs.size, needs.location, needs.resource_category)?;
         let made = self.device.create_resource(wanted, place);
         answers.note_made(&made);
         match made {
             Ok(resource) => {
-                let record = self.machine.made(&resource);
+                let record = self.handle.made(&resource);
                 Ok((resource, record))
             }
             Err(code) => {
-                self.machine.not_made();
+                self.handle.not_made();
                 Err(self.device.resource_refused(false, code))
             }
         }
@@ -375,7 +375,7 @@ impl Allocator {
 
     /// Forgets a committed resource that is released.
     fn forget(&mut self, record: &HeapsCommitted, number: u64) -> Result<()> {
-        self.machine.forget(record)?;
+        self.handle.forget(record)?;
         if let Some(capture) = &mut self.capture {
             capture.released(number);
         }
@@ -409,12 +409,12 @@ impl Allocator {
     ///
     /// The error: `Internal` where there is no such memory type.
     pub fn set_budget(&mut self, memory_type: usize, budget: Option<u64>) -> Result<()> {
-        self.machine.set_budget(memory_type, budget)
+        self.handle.set_budget(memory_type, budget)
     }
 
     /// The budget of a memory type in bytes; `None` where it has none, or isn't there.
     pub fn budget(&self, memory_type: usize) -> Option<u64> {
-        self.machine.budget(memory_type)
+        self.handle.budget(memory_type)
     }
 
     /// What was asked of the allocator by now, where that is recorded, up to the budgets as they are.
@@ -433,19 +433,19 @@ impl Allocator {
 
     /// The sum of the sizes of the heaps in bytes.
     pub fn capacity(&self) -> u64 {
-        self.machine.capacity()
+        self.handle.capacity()
     }
 
     /// What is counted of a memory type's committed resources; `None` where it isn't there. Memory types are for `GpuOnly`, `CpuToGpu` and
     /// `GpuToCpu`; at resource heap tier 1 each has three, by category.
     pub fn committed(&self, memory_type: usize) -> Option<CommittedAllocationStatistics> {
-        let counted = self.machine.committed(memory_type)?;
+        let counted = self.handle.committed(memory_type)?;
         Some(CommittedAllocationStatistics { num_allocations: counted.count, total_size: counted.bytes })
     }
 
     /// What is counted of a memory type; `None` where it isn't there.
     pub fn type_statistics(&self, memory_type: usize) -> Option<TypeStatistics> {
-        self.machine.type_statistics(memory_type)
+        self.handle.type_statistics(memory_type)
     }
 
     /// The same of all memory types together: the sums, and the longest gap of any; without a budget.
@@ -456,20 +456,20 @@ impl Allocator {
 
     /// What is counted of the heap in a slot of a memory type, if one is there.
     pub fn block_statistics(&self, memory_type: usize, slot: usize) -> Option<BlockStatistics> {
-        self.machine.block_at(memory_type, slot).statistics()
+        self.handle.block_at(memory_type, slot).statistics()
     }
 
     /// All live pieces of the heap in a slot in order of offset, with their names, in linear time; none where the slot has no heap.
     ///
     /// The error: `HostOutOfMemory`.
     pub fn named_pieces(&self, memory_type: usize, slot: usize) -> Result<Vec<NamedPiece>> {
-        self.machine.block_at(memory_type, slot).named()
+        self.handle.block_at(memory_type, slot).named()
     }
 
     /// What is held: pieces and heaps by memory type, slot and offset. Where the host has no memory for it, the program ends, as it does
     /// wherever Rust's lists have none; `report_json` and `named_pieces` return an error instead.
     pub fn generate_report(&self) -> AllocatorReport {
-        let named = self.machine.blocks().map(|(heap, block)| (size_of_heap(heap), block.named()));
+        let named = self.handle.blocks().map(|(heap, block)| (size_of_heap(heap), block.named()));
         report_of(self.capacity(), named).unwrap_or_else(|_| out_of_host_memory())
     }
 
@@ -477,7 +477,7 @@ impl Allocator {
     ///
     /// The error: `HostOutOfMemory`.
     pub fn report_json(&self) -> Result<String> {
-        self.machine.report_json()
+        self.handle.report_json()
     }
 
     /// Logs each live allocation as a leak, by memory type, slot and offset, where there is a logger. Where the host has no memory for the
@@ -485,7 +485,7 @@ impl Allocator {
     pub fn report_memory_leaks(&self, log_level: Level) {
         self.log.leaks(log_level, |log| {
             for index in 0.. {
-                match self.machine.leak(index)? {
+                match self.handle.leak(index)? {
                     text if text.is_empty() => break,
                     text => log(text.trim_end()),
                 }

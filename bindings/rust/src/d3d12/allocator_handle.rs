@@ -281,7 +281,7 @@ impl AllocatorHandle {
 
     /// The block in a slot, as a visit sees it.
     pub(super) fn block_at(&self, memory_type: usize, slot: usize) -> BlockAt<'_> {
-        BlockAt { machine: self, memory_type, slot }
+        BlockAt { allocator: self, memory_type, slot }
     }
 
     /// The report as JSON.
@@ -304,7 +304,7 @@ impl AllocatorHandle {
 /// A block of an allocator, as a visit sees it; there may be none.
 #[derive(Clone, Copy, Debug)]
 pub(super) struct BlockAt<'a> {
-    machine: &'a AllocatorHandle,
+    allocator: &'a AllocatorHandle,
     memory_type: usize,
     slot: usize,
 }
@@ -315,7 +315,7 @@ impl BlockAt<'_> {
         let mut block = raw::MemoryBlock::default();
         // SAFETY: the handle is the allocator's alone: it isn't `Sync`.
         check_unrefused(unsafe {
-            raw::pilhangko_raw_heaps_block(self.machine.handle.as_ptr(), self.memory_type, self.slot, &mut block)
+            raw::pilhangko_raw_heaps_block(self.allocator.handle.as_ptr(), self.memory_type, self.slot, &mut block)
         });
         block.exists.then_some(block.block)
     }
@@ -323,7 +323,7 @@ impl BlockAt<'_> {
     /// What is counted of the block, if there is one.
     pub(super) fn statistics(&self) -> Option<BlockStatistics> {
         let mut s = raw::MemoryBlockStatistics::default();
-        let handle = self.machine.handle.as_ptr();
+        let handle = self.allocator.handle.as_ptr();
         // SAFETY: the handle is the allocator's alone: it isn't `Sync`.
         check_unrefused(unsafe {
             raw::pilhangko_raw_heaps_block_statistics(handle, self.memory_type, self.slot, &mut s)
@@ -338,7 +338,7 @@ impl Visited for BlockAt<'_> {
     }
 
     fn show(&self, views: &mut [raw::PieceView]) -> (u32, usize) {
-        let (handle, mut shown) = (self.machine.handle.as_ptr(), 0);
+        let (handle, mut shown) = (self.allocator.handle.as_ptr(), 0);
         let (first, room) = (views.as_mut_ptr(), views.len());
         // SAFETY: the handle is the allocator's alone: it isn't `Sync`. There is room for as many views as is said.
         let status =
@@ -351,7 +351,7 @@ impl Visited for BlockAt<'_> {
         // SAFETY: the handle is the allocator's alone: it isn't `Sync`. There is room for as many lengths and bytes as is said.
         let status = unsafe {
             raw::pilhangko_raw_heaps_piece_names(
-                self.machine.handle.as_ptr(),
+                self.allocator.handle.as_ptr(),
                 self.memory_type,
                 self.slot,
                 0,

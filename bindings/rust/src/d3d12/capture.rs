@@ -82,7 +82,7 @@ impl Allocator {
 
     /// The bounds of memory types as they are now, where the capture may have others.
     pub(super) fn record_bounds(&self) {
-        let changes = self.machine.changes;
+        let changes = self.handle.changes;
         if let Some(capture) = self.capture.as_ref().filter(|capture| !capture.has_bounds(changes)) {
             capture.bounded(changes, (0..).map_while(|index| Some(self.type_statistics(index)?.budget)));
         }

@@ -88,7 +88,7 @@ pub(crate) fn next_owner() -> u64 {
 /// An allocator of a device's memory. It may go from thread to thread, and serves one call at a time (`Mutex<Allocator>`). Dropping it
 /// gives all blocks back to the driver and logs the allocations that are live still.
 pub struct Allocator {
-    pub(super) machine: AllocatorHandle,
+    pub(super) handle: AllocatorHandle,
     owner: u64,
     pub(super) requests: u64,
     device_address: bool,
@@ -109,7 +109,7 @@ impl Allocator {
         let AllocatorCreateDesc { device, allocation_sizes, .. } = desc;
         device.check()?;
         let mut allocator = Allocator {
-            machine: AllocatorHandle::new(device, allocation_sizes)?,
+            handle: AllocatorHandle::new(device, allocation_sizes)?,
             owner: next_owner(),
             requests: 0,
             device_address: desc.buffer_device_address,
@@ -118,16 +118,16 @@ impl Allocator {
             capture: desc.capture.then(|| Capture::of_allocator(device, allocation_sizes)).transpose()?,
             log: Log::new(desc.debug_settings, desc.logger.as_ref()),
         };
-        allocator.machine.set_smaller_blocks(!desc.whole_blocks && !desc.capture);
+        allocator.handle.set_smaller_blocks(!desc.whole_blocks && !desc.capture);
         allocator.device().describe(&allocator.log);
         Ok(allocator)
     }
 
     /// The pool over a handle that was made for it.
-    pub(super) fn apart(&self, desc: &PoolCreateDesc, machine: AllocatorHandle) -> Result<Self> {
+    pub(super) fn apart(&self, desc: &PoolCreateDesc, handle: AllocatorHandle) -> Result<Self> {
         let capture = desc.capture.then(|| Capture::of_allocator(self.device(), &desc.allocation_sizes)).transpose()?;
         Ok(Allocator {
-            machine,
+            handle,
             owner: next_owner(),
             requests: 0,
             device_address: self.device_address,
@@ -168,9 +168,9 @@ impl Allocator {
         let allocation_scheme = options.scheme(desc.allocation_scheme);
         let desc = AllocationCreateDesc { requirements, allocation_scheme, ..desc.clone() };
         self.requests += 1;
-        let common = self.machine.share.common();
+        let common = self.handle.share.common();
         let mut common = lock(&common);
-        self.machine.follow(&common);
+        self.handle.follow(&common);
         let (bounds, mut answers) = (self.captured_bounds(), Answers::default());
         let mut result = self.serve(&desc, preference.as_ref(), options.next, &mut common, &mut answers);
         drop(common);
@@ -219,7 +219,7 @@ impl Allocator {
     fn release(&mut self, allocation: &mut Allocation) -> Result<()> {
         let Some(held) = &allocation.held else { return Ok(()) };
         self.owns(held)?;
-        self.machine.free(&held.piece)?;
+        self.handle.free(&held.piece)?;
         if let Some(capture) = &mut self.capture {
             capture.freed(held.number);
         }
@@ -234,7 +234,7 @@ impl Allocator {
         let own = copied(name)?;
         if let Some(held) = &allocation.held {
             self.owns(held)?;
-            self.machine.rename(&held.piece, name)?;
+            self.handle.rename(&held.piece, name)?;
             if let Some(capture) = &mut self.capture {
                 capture.renamed(held.number, name);
             }
@@ -249,7 +249,7 @@ impl Allocator {
     pub fn set_user_data(&mut self, allocation: &mut Allocation, user_data: u64) -> Result<()> {
         if let Some(held) = &allocation.held {
             self.owns(held)?;
-            self.machine.set_word(&held.piece, user_data)?;
+            self.handle.set_word(&held.piece, user_data)?;
         }
         allocation.user_data = user_data;
         Ok(())
@@ -257,7 +257,7 @@ impl Allocator {
 
     /// Whether an allocation is this allocator's and live.
     pub fn is_live(&self, allocation: &Allocation) -> bool {
-        allocation.held.as_ref().is_some_and(|held| self.owns(held).is_ok() && self.machine.is_live(&held.piece))
+        allocation.held.as_ref().is_some_and(|held| self.owns(held).is_ok() && self.handle.is_live(&held.piece))
     }
 
     /// The block that a live allocation lies in.
@@ -273,23 +273,23 @@ impl Allocator {
     ///
     /// The error: `Internal` where there is no such memory type.
     pub fn set_budget(&mut self, memory_type: usize, budget: Option<u64>) -> Result<()> {
-        self.machine.set_budget(memory_type, budget)
+        self.handle.set_budget(memory_type, budget)
     }
 
     /// The memory type at which a request with these bits begins: the first with all flags that the location prefers, else the first with
     /// all that it must have; `None` where there is neither.
     pub fn best_type(&self, memory_type_bits: u32, location: MemoryLocation) -> Option<usize> {
-        self.machine.best_type(memory_type_bits, location)
+        self.handle.best_type(memory_type_bits, location)
     }
 
     /// The budget of a memory type in bytes; `None` where it has none, or isn't there.
     pub fn budget(&self, memory_type: usize) -> Option<u64> {
-        self.machine.budget(memory_type)
+        self.handle.budget(memory_type)
     }
 
     /// The device that is asked for memory.
     pub fn device(&self) -> &Device {
-        self.machine.device()
+        self.handle.device()
     }
 
     /// What was asked of the allocator by now, where that is recorded, up to the budgets as they are.
@@ -333,8 +333,8 @@ impl Allocator {
         let next = next.or(self.next);
         let purpose = Purpose { scheme: desc.allocation_scheme, device_address: self.device_address, next };
         let mut progress = match preference {
-            None => self.machine.begin(desc)?,
-            Some(preference) => self.machine.begin_by_flags(desc, preference)?,
+            None => self.handle.begin(desc)?,
+            Some(preference) => self.handle.begin_by_flags(desc, preference)?,
         };
         let mut refusal = None;
         loop {
@@ -342,14 +342,14 @@ impl Allocator {
                 Progress::Piece(piece) => return Ok(piece),
                 Progress::Refused(status) => return Err(error_of(status, refusal)),
                 Progress::Question(question) => match self.ask(&question, purpose, preference.is_some(), answers) {
-                    Answer::Granted(memory) => return Ok(self.machine.granted(memory, common)),
+                    Answer::Granted(memory) => return Ok(self.handle.granted(memory, common)),
                     Answer::MemoryRefused(refused) => {
                         refusal = Some(refused);
-                        self.machine.refused(refused.memory_code())
+                        self.handle.refused(refused.memory_code())
                     }
                     Answer::MappingRefused(refused) => {
                         refusal = Some(refused);
-                        self.machine.mapping_refused(refused.code())
+                        self.handle.mapping_refused(refused.code())
                     }
                 },
             }
@@ -382,7 +382,7 @@ impl Allocator {
 
     /// The block that a piece lies in.
     pub(super) fn block_of(&self, held: &Held) -> Option<LiveBlock> {
-        self.machine.live_block(held.piece.memory_type, held.piece.piece.slot)
+        self.handle.live_block(held.piece.memory_type, held.piece.piece.slot)
     }
 
     /// Whether an allocation is of this allocator.

@@ -83,7 +83,7 @@ impl Allocator {
     /// What a heap has, and what the driver tells of it now; `None` where there is no such heap.
     pub fn read_heap(&self, heap: usize) -> Option<Heap> {
         let it = self.device().memory_heaps().get(heap)?;
-        let held = lock(&self.machine.share.common()).held_in(heap);
+        let held = lock(&self.handle.share.common()).held_in(heap);
         let told = self.device().read_budgets();
         let budget = told.map(|told| HeapBudget { usage: told.heap_usage[heap], budget: told.heap_budget[heap] });
         Some(Heap { size: it.size, flags: it.flags, held, budget })
@@ -93,7 +93,7 @@ impl Allocator {
     ///
     /// The error: `Internal` where the device tells of no budgets ([`Device::with_memory_budget`]).
     pub fn update_budgets(&mut self) -> Result<()> {
-        let common = self.machine.share.common();
+        let common = self.handle.share.common();
         let mut common = lock(&common); // no block comes or goes meanwhile
         let told = self.device().read_budgets().ok_or(internal("The device tells of no budgets."))?;
         for heap in 0..self.device().memory_heaps().len() {
@@ -115,32 +115,32 @@ impl Allocator {
         if heap >= self.device().memory_heaps().len() {
             return Err(internal("No such memory heap."));
         }
-        lock(&self.machine.share.common()).set_limit(heap, limit);
+        lock(&self.handle.share.common()).set_limit(heap, limit);
         self.follow_others();
         Ok(())
     }
 
     /// The limit of a heap in bytes; `None` where it has none, or isn't there.
     pub fn heap_limit(&self, heap: usize) -> Option<u64> {
-        lock(&self.machine.share.common()).limit(heap)
+        lock(&self.handle.share.common()).limit(heap)
     }
 
     /// Takes over what pools, or the allocator that this is a pool of, leave of the bounds.
     pub(super) fn follow_others(&mut self) {
-        let common = self.machine.share.common();
-        self.machine.follow(&lock(&common));
+        let common = self.handle.share.common();
+        self.handle.follow(&lock(&common));
     }
 
     /// The bounds of memory types by which the next request is served, where a capture may have others. A trace bounds no heaps, and not how many
     /// blocks there are: each memory type has what it may have now.
     pub(super) fn captured_bounds(&self) -> Option<Bounds> {
-        let changes = self.machine.changes;
+        let changes = self.handle.changes;
         // a request costs little behind one that changed none of this, however many memory types there are
         if self.capture.as_ref()?.has_bounds(changes) {
             return None;
         }
         let (mut of_types, types) = ([None; 32], self.device().memory_types().len());
-        (0..types).for_each(|index| of_types[index] = self.machine.bound(index));
+        (0..types).for_each(|index| of_types[index] = self.handle.bound(index));
         Some(Bounds { of_types, types, changes })
     }
 

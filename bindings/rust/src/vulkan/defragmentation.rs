@@ -57,7 +57,7 @@ impl Allocator {
         let (piece, number) = (held.piece, held.number);
         let requirements = self.narrow(desc.requirements);
         let desc = AllocationCreateDesc { requirements, ..desc.clone() };
-        let to = self.machine.propose_move(&piece, &desc)?;
+        let to = self.handle.propose_move(&piece, &desc)?;
         self.record_bounds();
         if let Some(capture) = &mut self.capture {
             capture.allocator_moved(number, self.requests + 1, &desc);

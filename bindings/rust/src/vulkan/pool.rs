@@ -45,9 +45,9 @@ impl Allocator {
         if desc.next.is_some_and(|chain| chain.has(MemoryDedicatedAllocateInfo::STRUCTURE_TYPE)) {
             return Err(invalid_device("memory for one resource in the chain of a pool."));
         }
-        let mut machine = self.machine.apart(&desc.allocation_sizes, desc.most_blocks)?;
-        machine.set_smaller_blocks(!desc.whole_blocks && !desc.capture);
-        self.apart(desc, machine)
+        let mut handle = self.handle.apart(&desc.allocation_sizes, desc.most_blocks)?;
+        handle.set_smaller_blocks(!desc.whole_blocks && !desc.capture);
+        self.apart(desc, handle)
     }
 }
 

@@ -14,17 +14,17 @@ use std::fmt;
 impl Allocator {
     /// The sum of the sizes of the live blocks in bytes.
     pub fn capacity(&self) -> u64 {
-        self.machine.capacity()
+        self.handle.capacity()
     }
 
     /// The sum of the sizes of a memory type's blocks in bytes; `None` where it isn't there.
     pub fn type_capacity(&self, memory_type: usize) -> Option<u64> {
-        self.machine.type_capacity(memory_type)
+        self.handle.type_capacity(memory_type)
     }
 
     /// What is counted of a memory type; `None` where it isn't there.
     pub fn type_statistics(&self, memory_type: usize) -> Option<TypeStatistics> {
-        self.machine.type_statistics(memory_type)
+        self.handle.type_statistics(memory_type)
     }
 
     /// The same of all memory types together: the sums, and the longest gap of any; without a budget.
@@ -35,42 +35,42 @@ impl Allocator {
 
     /// What is counted of the block in a slot of a memory type, if one is there.
     pub fn block_statistics(&self, memory_type: usize, slot: usize) -> Option<BlockStatistics> {
-        self.machine.block_at(memory_type, slot).statistics()
+        self.handle.block_at(memory_type, slot).statistics()
     }
 
     /// All live pieces of the block in a slot in order of offset, with their names, in linear time; none where the slot has no block.
     ///
     /// The error: `HostOutOfMemory`.
     pub fn named_pieces(&self, memory_type: usize, slot: usize) -> Result<Vec<NamedPiece>> {
-        self.machine.block_at(memory_type, slot).named()
+        self.handle.block_at(memory_type, slot).named()
     }
 
     /// What is held: pieces and blocks by memory type, slot and offset. Where the host has no memory for it, the program ends, as it does
     /// wherever Rust's lists have none; `report_json` and `named_pieces` return an error instead.
     pub fn generate_report(&self) -> AllocatorReport {
-        let machine = &self.machine;
-        let named = |it: LiveBlock| (it.size, machine.block_at(it.memory_type, it.slot).named());
-        report_of(machine.capacity(), machine.blocks().map(named)).unwrap_or_else(|_| out_of_host_memory())
+        let handle = &self.handle;
+        let named = |it: LiveBlock| (it.size, handle.block_at(it.memory_type, it.slot).named());
+        report_of(handle.capacity(), handle.blocks().map(named)).unwrap_or_else(|_| out_of_host_memory())
     }
 
     /// The report as JSON (`gpu_report.allocator` of docs/REPORT.md).
     ///
     /// The error: `HostOutOfMemory`.
     pub fn report_json(&self) -> Result<String> {
-        self.machine.report_json()
+        self.handle.report_json()
     }
 
     /// Logs each live allocation as a leak, by memory type, slot and offset, where there is a logger. Where the host has no memory for the
     /// next ones, the last line says so.
     pub fn report_memory_leaks(&self, log_level: Level) {
-        self.log.leaks(log_level, |log| leaks(&self.machine, |leak| log(&leak.to_string())));
+        self.log.leaks(log_level, |log| leaks(&self.handle, |leak| log(&leak.to_string())));
     }
 }
 
 /// Hands each live piece to `tell`, as a leak, by memory type, slot and offset.
-fn leaks(machine: &AllocatorHandle, mut tell: impl FnMut(Leak<'_>)) -> Result<()> {
-    for LiveBlock { memory_type, slot, is_shared, .. } in machine.blocks() {
-        for NamedPiece { view, name } in &machine.block_at(memory_type, slot).named()? {
+fn leaks(handle: &AllocatorHandle, mut tell: impl FnMut(Leak<'_>)) -> Result<()> {
+    for LiveBlock { memory_type, slot, is_shared, .. } in handle.blocks() {
+        for NamedPiece { view, name } in &handle.block_at(memory_type, slot).named()? {
             tell(Leak { memory_type, slot, is_shared, view, name });
         }
     }

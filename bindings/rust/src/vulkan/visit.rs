@@ -69,7 +69,7 @@ impl AllocatorHandle {
 
     /// The block in a slot, as a visit sees it.
     pub(super) fn block_at(&self, memory_type: usize, slot: usize) -> BlockAt<'_> {
-        BlockAt { machine: self, memory_type, slot }
+        BlockAt { allocator: self, memory_type, slot }
     }
 
     /// The report as JSON.
@@ -99,7 +99,7 @@ impl AllocatorHandle {
 /// A block of an allocator, as a visit sees it; there may be none.
 #[derive(Clone, Copy, Debug)]
 pub(super) struct BlockAt<'a> {
-    machine: &'a AllocatorHandle,
+    allocator: &'a AllocatorHandle,
     memory_type: usize,
     slot: usize,
 }
@@ -111,7 +111,7 @@ impl BlockAt<'_> {
         // SAFETY: the handle is the allocator's alone: it isn't `Sync`.
         check_unrefused(unsafe {
             raw::pilhangko_raw_allocator_block_statistics(
-                self.machine.handle.as_ptr(),
+                self.allocator.handle.as_ptr(),
                 self.memory_type,
                 self.slot,
                 &mut s,
@@ -131,7 +131,7 @@ impl Visited for BlockAt<'_> {
         // SAFETY: the handle is the allocator's alone: it isn't `Sync`. There is room for as many views as is said.
         let status = unsafe {
             raw::pilhangko_raw_allocator_pieces(
-                self.machine.handle.as_ptr(),
+                self.allocator.handle.as_ptr(),
                 self.memory_type,
                 self.slot,
                 0,
@@ -148,7 +148,7 @@ impl Visited for BlockAt<'_> {
         // SAFETY: the handle is the allocator's alone: it isn't `Sync`. There is room for as many lengths and bytes as is said.
         let status = unsafe {
             raw::pilhangko_raw_allocator_piece_names(
-                self.machine.handle.as_ptr(),
+                self.allocator.handle.as_ptr(),
                 self.memory_type,
                 self.slot,
                 0,

@@ -13,7 +13,7 @@ fn leaks(allocator: &mut Allocator) -> (Vec<String>, Vec<String>) {
     allocator.log.logger = Some(Logger::new(move |_, line| kept.lock().expect("one thread").push(line.to_owned())));
     allocator.report_memory_leaks(Level::Info);
     allocator.log.logger = None;
-    let texts = (0..).map(|index| allocator.machine.leak(index)).take_while(|text| !text.is_empty()).collect();
+    let texts = (0..).map(|index| allocator.handle.leak(index)).take_while(|text| !text.is_empty()).collect();
     let logged = std::mem::take(&mut *lines.lock().expect("one thread"));
     (logged, texts)
 }
@@ -47,15 +47,15 @@ fn many_blocks_are_as_quick_as_the_library() {
         allocation_scheme: AllocationScheme::DedicatedBuffer(Buffer(1)),
     };
     let begin = Instant::now();
-    let mut machine = AllocatorHandle::new(&driver.device(), &AllocationSizes::default()).unwrap();
-    let common = machine.share.common();
+    let mut handle = AllocatorHandle::new(&driver.device(), &AllocationSizes::default()).unwrap();
+    let common = handle.share.common();
     let mut common = lock(&common);
     for number in 1..=20_000 {
-        assert!(matches!(machine.begin(&own), Ok(Progress::Question(_))));
-        machine.granted(Memory { handle: DeviceMemory(number), address: None }, &mut common);
+        assert!(matches!(handle.begin(&own), Ok(Progress::Question(_))));
+        handle.granted(Memory { handle: DeviceMemory(number), address: None }, &mut common);
     }
     let alone = begin.elapsed();
-    std::mem::forget(machine); // the driver never gave this memory, and takes none of it back
+    std::mem::forget(handle); // the driver never gave this memory, and takes none of it back
     let begin = Instant::now();
     let mut allocator = Allocator::new(&AllocatorCreateDesc::new(driver.device())).unwrap();
     let live: Vec<Allocation> = (0..20_000).map(|_| allocator.allocate(&own).unwrap()).collect();
